@@ -1,0 +1,4 @@
+pub mod Boolean
+pub mod Sheets
+pub mod Signs
+pub mod Tests

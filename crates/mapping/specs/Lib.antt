@@ -1,0 +1,4 @@
+pub mod Forms
+pub mod Meanings
+pub mod Memory
+pub mod Translation
