@@ -1,4 +1,5 @@
 pub mod Boolean
+pub mod Refusals
 pub mod Sheets
 pub mod Signs
 pub mod Tests

@@ -6,9 +6,9 @@ use lib.Dec.{eqb}
 use lib.ListN.{getD}
 use Rattle.std.specs.Joined.{joined}
 use Rattle.formula.specs.Tests.{every, some}
-use Rattle.formula.specs.declared.Sign.{Sign}
-use Rattle.formula.specs.declared.Sign.the-variants.{Plus, Minus}
-use Rattle.formula.specs.declared.Literal.{Literal}
+use Rattle.formula.specs.declared.signed.Sign.{Sign}
+use Rattle.formula.specs.declared.signed.Sign.the-variants.{Plus, Minus}
+use Rattle.formula.specs.declared.signed.Literal.{Literal}
 
 -- an entry of a sheet declares a variable of a size, or states a clause of signed literals; a sheet is a list of entries
 pub data Entry : Type 0 where

@@ -4,8 +4,8 @@ use mathlib.Core.Bool.{cond}
 use lib.Dec.{eqb}
 use Rattle.std.specs.declared.option.Option.{Option}
 use Rattle.std.specs.declared.option.Option.the-variants.{Some, None}
-use Rattle.formula.specs.declared.Sign.{Sign}
-use Rattle.formula.specs.declared.Sign.the-variants.{Plus, Minus}
+use Rattle.formula.specs.declared.signed.Sign.{Sign}
+use Rattle.formula.specs.declared.signed.Sign.the-variants.{Plus, Minus}
 
 -- + is 43 and - is 45
 abbrev pub sign-byte : Sign → ℕ

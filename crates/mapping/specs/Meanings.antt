@@ -11,7 +11,7 @@ use Rattle.std.specs.declared.option.Option.the-variants.{Some, None}
 use Rattle.formula.specs.Boolean.{Clause, row, satisfies, local, words-of}
 use Rattle.formula.specs.Sheets.{by-sign}
 use Rattle.formula.specs.Tests.{every}
-use Rattle.formula.specs.declared.Sign.{Sign}
+use Rattle.formula.specs.declared.signed.Sign.{Sign}
 use Rattle.mapping.specs.Forms.{Form, any-of, members, true-form}
 
 -- a mapping says for each size: how many Booleans a variable has, which clauses they keep,

@@ -5,7 +5,7 @@ use lib.ListN.{take}
 use Rattle.formula.specs.Boolean.{Clause}
 use Rattle.formula.specs.Sheets.{Entry, variable, clause, entry-sizes, size-at}
 use Rattle.formula.specs.Tests.{sum-of}
-use Rattle.formula.specs.declared.Literal.{Literal}
+use Rattle.formula.specs.declared.signed.Literal.{Literal}
 use Rattle.mapping.specs.Forms.{Form, shifted, shifted-form, distributed}
 use Rattle.mapping.specs.Meanings.{Meaning}
 
