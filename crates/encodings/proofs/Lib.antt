@@ -1,0 +1,4 @@
+pub mod Descent
+pub mod Guard
+pub mod Opposites
+pub mod Readers

@@ -1,0 +1,3 @@
+pub mod FullRegular
+pub mod Names
+pub mod Readings

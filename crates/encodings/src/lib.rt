@@ -1,0 +1,8 @@
+// The mappings from sized variables to Booleans.
+pub mod full_regular;
+pub mod names;
+mod ranges;
+
+pub use full_regular::FullRegular;
+pub use full_regular::FullRegularMapping;
+pub use names::Name;

@@ -1,0 +1,3 @@
+pub mod Filing
+pub mod Placed
+pub mod Places
