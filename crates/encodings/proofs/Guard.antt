@@ -5,7 +5,7 @@ use mathlib.Core.List.{List, []}
 use Prim.Native.Nat.{ℕ, _≤_}
 use lib.Dec.{eqb}
 use lib.ListN.{length}
-use Rattle.std.proofs.shelf.Tests.{and-from, cond-true}
+use Rattle.std.proofs.shelf.Tests.{and-from, and-left, and-right, cond-true, cond-false}
 use Rattle.std.specs.Options.{isSome}
 use Rattle.std.specs.declared.option.Option.{Option}
 use Rattle.std.specs.declared.option.Option.the-variants.{Some, None}
@@ -50,44 +50,55 @@ pub record Lawful-on-rows (M : Meaning) (m : ℕ) : Type 0 where
   pub form-least : (s : Sign) (i : ℕ) → is-value m i ≡ true → 1 ≤ length (members (M .form m s i))
   pub form-most : (s : Sign) (i : ℕ) → is-value m i ≡ true → length (members (M .form m s i)) ≤ 8
 
--- where a guarded reading is a value, the row and the reading are what they are within the guard
+-- within the range, a guarded meaning is what it guards
+module _ (M : Meaning) (m : ℕ) (s : is-size m ≡ true) where
+  pub width-within : guarded M .width m ≡ M .width m
+  width-within = cond-true (is-size m) (M .width m) 0 s
+
+  pub axioms-within : guarded M .axioms m ≡ M .axioms m
+  axioms-within = cond-true (is-size m) (M .axioms m) [] s
+
+  pub form-within : (g : Sign) (i : ℕ) → is-value m i ≡ true → guarded M .form m g i ≡ M .form m g i
+  form-within g i v = cond-true (is-size m && is-value m i) (M .form m g i) (any-of []) (and-from (is-size m) (is-value m i) s v)
+
+  pub reading-within : (bits : List ℕ) → row (M .width m) bits ≡ true → guarded M .reading m bits ≡ M .reading m bits
+  reading-within bits r =
+      cond-true (is-size m && row (M .width m) bits) (M .reading m bits) None (and-from (is-size m) (row (M .width m) bits) s r)
+
+-- bits that are no row have no reading, and no bits have one at a size out of range
+module _ (M : Meaning) (m : ℕ) (bits : List ℕ) where
+  pub reading-no-size : is-size m ≡ false → guarded M .reading m bits ≡ None
+  reading-no-size s = cond-false (is-size m && row (M .width m) bits) (M .reading m bits) None (and-left (is-size m) (row (M .width m) bits) s)
+
+  pub reading-no-row : row (M .width m) bits ≡ false → guarded M .reading m bits ≡ None
+  reading-no-row r = cond-false (is-size m && row (M .width m) bits) (M .reading m bits) None (and-right (is-size m) (row (M .width m) bits) r)
+
+-- where a guarded reading is a value, the bits are a row and the reading is what is guarded
 read-within : (s r : Bool) (o : Option ℕ) (i : ℕ) → cond (s && r) o None ≡ Some i → (r ≡ true) × (o ≡ Some i)
 read-within true true o i e = (refl, e)
 read-within true false o i e = (cc, cc)
 read-within false r o i e = (cc, cc)
 
 module _ (M : Meaning) (m : ℕ) (s : is-size m ≡ true) (L : Lawful-on-rows M m) where
-  width-in : guarded M .width m ≡ M .width m
-  width-in = cond-true (is-size m) (M .width m) 0 s
-
-  axioms-in : guarded M .axioms m ≡ M .axioms m
-  axioms-in = cond-true (is-size m) (M .axioms m) [] s
-
-  form-in : (g : Sign) (i : ℕ) → is-value m i ≡ true → guarded M .form m g i ≡ M .form m g i
-  form-in g i v = cond-true (is-size m && is-value m i) (M .form m g i) (any-of []) (and-from (is-size m) (is-value m i) s v)
-
-  reading-in : (bits : List ℕ) → row (M .width m) bits ≡ true → guarded M .reading m bits ≡ M .reading m bits
-  reading-in bits r = cond-true (is-size m && row (M .width m) bits) (M .reading m bits) None (and-from (is-size m) (row (M .width m) bits) s r)
-
-  row-in : (bits : List ℕ) → row (guarded M .width m) bits ≡ row (M .width m) bits
-  row-in bits = ap (λ w. row w bits) width-in
+  row-within : (bits : List ℕ) → row (guarded M .width m) bits ≡ row (M .width m) bits
+  row-within bits = ap (λ w. row w bits) (width-within M m s)
 
   guarded-at : Lawful-at (guarded M) m
   guarded-at = record {
-    width-least = subst (λ w. 1 ≤ w) (sym width-in) (L .width-least);
-    width-most = subst (λ w. w ≤ 127) (sym width-in) (L .width-most);
+    width-least = subst (λ w. 1 ≤ w) (sym (width-within M m s)) (L .width-least);
+    width-most = subst (λ w. w ≤ 127) (sym (width-within M m s)) (L .width-most);
     reading-value = λ bits i e. let h = read-within (is-size m) (row (M .width m) bits) (M .reading m bits) i e in L .reading-value bits i (h .0) (h .1);
-    reads = λ bits r. let r′ = sym (row-in bits) ∙ r in ap isSome (reading-in bits r′) ∙ (L .reads bits r′ ∙ ap (satisfies bits) (sym axioms-in));
+    reads = λ bits r. let r′ = sym (row-within bits) ∙ r in ap isSome (reading-within M m s bits r′) ∙ (L .reads bits r′ ∙ ap (satisfies bits) (sym (axioms-within M m s)));
     form-true = λ bits i e g j v. let h = read-within (is-size m) (row (M .width m) bits) (M .reading m bits) i e in
-      ap (true-form bits) (form-in g j v) ∙ L .form-true bits i (h .0) (h .1) g j v;
-    code = λ i v. let h = L .code i v in (h .0, row-in (h .0) ∙ h .1, reading-in (h .0) (h .1) ∙ h .2);
-    axioms-local = subst (λ w. every (every (local w)) (guarded M .axioms m) ≡ true) (sym width-in)
-      (subst (λ cs. every (every (local (M .width m))) cs ≡ true) (sym axioms-in) (L .axioms-local));
-    form-local = λ g i v. subst (λ w. every (local w) (members (guarded M .form m g i)) ≡ true) (sym width-in)
-      (subst (λ f. every (local (M .width m)) (members f) ≡ true) (sym (form-in g i v)) (L .form-local g i v));
-    axioms-words = subst (λ cs. words-of cs ≤ 8192) (sym axioms-in) (L .axioms-words);
-    form-least = λ g i v. subst (λ f. 1 ≤ length (members f)) (sym (form-in g i v)) (L .form-least g i v);
-    form-most = λ g i v. subst (λ f. length (members f) ≤ 8) (sym (form-in g i v)) (L .form-most g i v);
+      ap (true-form bits) (form-within M m s g j v) ∙ L .form-true bits i (h .0) (h .1) g j v;
+    code = λ i v. let h = L .code i v in (h .0, row-within (h .0) ∙ h .1, reading-within M m s (h .0) (h .1) ∙ h .2);
+    axioms-local = subst (λ w. every (every (local w)) (guarded M .axioms m) ≡ true) (sym (width-within M m s))
+      (subst (λ cs. every (every (local (M .width m))) cs ≡ true) (sym (axioms-within M m s)) (L .axioms-local));
+    form-local = λ g i v. subst (λ w. every (local w) (members (guarded M .form m g i)) ≡ true) (sym (width-within M m s))
+      (subst (λ f. every (local (M .width m)) (members f) ≡ true) (sym (form-within M m s g i v)) (L .form-local g i v));
+    axioms-words = subst (λ cs. words-of cs ≤ 8192) (sym (axioms-within M m s)) (L .axioms-words);
+    form-least = λ g i v. subst (λ f. 1 ≤ length (members f)) (sym (form-within M m s g i v)) (L .form-least g i v);
+    form-most = λ g i v. subst (λ f. length (members f) ≤ 8) (sym (form-within M m s g i v)) (L .form-most g i v);
   }
 
 -- so each mapping shows the laws within its range, on rows, and no more

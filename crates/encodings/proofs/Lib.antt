@@ -1,4 +1,9 @@
-pub mod Descent
+pub mod Descents
 pub mod Guard
+pub mod Levels
+pub mod Limits
 pub mod Opposites
 pub mod Readers
+pub mod Rows
+pub mod Runs
+pub mod Writing

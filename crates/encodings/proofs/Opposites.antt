@@ -1,5 +1,5 @@
 -- The opposites of literals: one of them is true exactly when the literals are not all true.
-use mathlib.Core.Path.{_≡_, refl, ap, _∙_}
+use mathlib.Core.Path.{_≡_, refl, ap, ap₂, _∙_}
 use mathlib.Core.Bool.{Bool, true, false, not, _&&_, _||_}
 use mathlib.Core.List.{List, [], _∷_, map}
 use Prim.Native.Nat.{ℕ, zero, suc}
@@ -48,10 +48,12 @@ opposite-number (pos zero) = refl
 opposite-number (pos (suc n)) = refl
 opposite-number (negsuc n) = refl
 
+pub opposite-local : (w : ℕ) (l : ℤ) → local w (opposite l) ≡ local w l
+opposite-local w l = ap (λ n. leb 1 n && leb n w) (opposite-number l)
+
 opposites-local : (w : ℕ) (ls : List ℤ) → every (local w) (map opposite ls) ≡ every (local w) ls
 opposites-local w [] = refl
-opposites-local w (l ∷ ls) = ap (λ n. (leb 1 n && leb n w) && every (local w) (map opposite ls)) (opposite-number l) ∙
-    ap (λ t. local w l && t) (opposites-local w ls)
+opposites-local w (l ∷ ls) = ap₂ _&&_ (opposite-local w l) (opposites-local w ls)
 
 pub form-by-local : (w : ℕ) (ls : List ℤ) (s : Sign) → every (local w) (members (form-by ls s)) ≡ every (local w) ls
 form-by-local w ls Plus = refl

@@ -9,12 +9,24 @@ use Rattle.formula.specs.Boolean.{Clause, opposite, satisfies}
 use Rattle.formula.specs.declared.signed.Sign.{Sign}
 use Rattle.formula.specs.declared.signed.Sign.the-variants.{Plus, Minus}
 use Rattle.mapping.specs.Forms.{Form, all-of, any-of, true-form}
+use Rattle.mapping.specs.declared.Kind.{Kind}
+use Rattle.mapping.specs.declared.Kind.the-variants.{AllOf, AnyOf}
 use Rattle.mapping.specs.Meanings.{Meaning}
 
 -- the forms of a value that its literals stand for: all of them with a plus, any of their opposites with a minus
 abbrev pub form-by : List ℤ → Sign → Form
 form-by ls Plus = all-of ls
 form-by ls Minus = any-of (map opposite ls)
+
+-- a literal for a plus, its opposite for a minus
+abbrev pub signed-literal : Sign → ℤ → ℤ
+signed-literal Plus l = l
+signed-literal Minus l = opposite l
+
+-- the kind of those forms
+abbrev pub kind-by : Sign → Kind
+kind-by Plus = AllOf
+kind-by Minus = AnyOf
 
 -- the first of the n values from s on that passes the test
 abbrev pub first-value : (ℕ → Bool) → ℕ → ℕ → Option ℕ

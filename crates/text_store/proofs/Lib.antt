@@ -1,2 +1,7 @@
+pub mod Backwards
 pub mod Figures
+pub mod Lines
+pub mod Marks
 pub mod Places
+pub mod Rows
+pub mod Tests

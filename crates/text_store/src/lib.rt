@@ -1,2 +1,3 @@
 // A clause store whose buffer holds its clauses as text.
-pub mod writing;
+mod scanning;
+mod writing;

@@ -1,6 +1,7 @@
 // Stores what an entry of a sheet is translated to, all of it or nothing, in any store and under any mapping.
 mod placed;
 pub mod places;
+mod product;
 pub mod room;
 
 pub use places::Place;

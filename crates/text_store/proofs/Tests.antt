@@ -1,0 +1,46 @@
+-- Tests and sums over a list, by its parts. Assumes nothing.
+use mathlib.Core.Path.{_≡_, refl, sym, ap, ap₂, _∙_}
+use mathlib.Core.Bool.{Bool, true, _&&_}
+use mathlib.Core.List.{List, [], _∷_, _++_, map}
+use Prim.Native.Nat.{ℕ, zero, suc, _+_}
+use native.Mathlib.Omega.{arith}
+use lib.ListN.{take}
+use Rattle.std.proofs.shelf.Tests.{and-parts, and-from}
+use Rattle.formula.specs.Tests.{every, sum-of}
+
+module _ {X : Type 0} (p : X → Bool) where
+  pub every-append : (xs ys : List X) → every p xs ≡ true → every p ys ≡ true → every p (xs ++ ys) ≡ true
+  every-append [] ys h k = k
+  every-append (x ∷ xs) ys h k =
+      let parts = and-parts (p x) (every p xs) h in
+      and-from (p x) (every p (xs ++ ys)) (parts .0) (every-append xs ys (parts .1) k)
+
+  pub every-push : (xs : List X) (x : X) → every p xs ≡ true → p x ≡ true → every p (xs ++ x ∷ []) ≡ true
+  every-push xs x h k = every-append xs (x ∷ []) h (and-from (p x) true k refl)
+
+  pub every-parts : (xs ys : List X) → every p (xs ++ ys) ≡ true → (every p xs ≡ true) × (every p ys ≡ true)
+  every-parts [] ys h = (refl, h)
+  every-parts (x ∷ xs) ys h =
+      let parts = and-parts (p x) (every p (xs ++ ys)) h in
+      let more = every-parts xs ys (parts .1) in
+      (and-from (p x) (every p xs) (parts .0) (more .0), more .1)
+
+  pub every-weaker : (q : X → Bool) → ((x : X) → p x ≡ true → q x ≡ true) → (xs : List X) → every p xs ≡ true → every q xs ≡ true
+  every-weaker q f [] h = refl
+  every-weaker q f (x ∷ xs) h =
+      let parts = and-parts (p x) (every p xs) h in
+      and-from (q x) (every q xs) (f x (parts .0)) (every-weaker q f xs (parts .1))
+
+  -- what is undone at each element is undone over the list
+  pub map-back : {Y : Type 0} (f : X → Y) (g : Y → X) → ((x : X) → p x ≡ true → g (f x) ≡ x) → (xs : List X) → every p xs ≡ true → map g (map f xs) ≡ xs
+  map-back f g back [] h = refl
+  map-back f g back (x ∷ xs) h =
+      let parts = and-parts (p x) (every p xs) h in
+      ap₂ (λ y ys. y ∷ ys) (back x (parts .0)) (map-back f g back xs (parts .1))
+
+pub sum-append : {X : Type 0} (f : X → ℕ) (xs ys : List X) → sum-of f (xs ++ ys) ≡ sum-of f xs + sum-of f ys
+sum-append f [] ys = omega arith
+sum-append f (x ∷ xs) ys = let more = sum-append f xs ys in omega arith
+
+pub sum-push : {X : Type 0} (f : X → ℕ) (xs : List X) (x : X) → sum-of f (xs ++ x ∷ []) ≡ sum-of f xs + f x
+sum-push f xs x = let all = sum-append f xs (x ∷ []) in omega arith
