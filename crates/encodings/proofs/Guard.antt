@@ -22,7 +22,7 @@ cond-twice false x y = refl
 
 -- a guarded reading guards the width that it asks for
 reading-twice : (s : Bool) (w : ℕ) (bits : List ℕ) (r : Option ℕ) →
-  cond (s && row (cond s w 0) bits) (cond (s && row w bits) r None) None ≡ cond (s && row w bits) r None
+    cond (s && row (cond s w 0) bits) (cond (s && row w bits) r None) None ≡ cond (s && row w bits) r None
 reading-twice true w bits r = cond-twice (row w bits) r None
 reading-twice false w bits r = refl
 
@@ -42,7 +42,7 @@ pub record Lawful-on-rows (M : Meaning) (m : ℕ) : Type 0 where
   pub reading-value : (bits : List ℕ) (i : ℕ) → row (M .width m) bits ≡ true → M .reading m bits ≡ Some i → is-value m i ≡ true
   pub reads : (bits : List ℕ) → row (M .width m) bits ≡ true → isSome (M .reading m bits) ≡ satisfies bits (M .axioms m)
   pub form-true : (bits : List ℕ) (i : ℕ) → row (M .width m) bits ≡ true → M .reading m bits ≡ Some i →
-    (s : Sign) (j : ℕ) → is-value m j ≡ true → true-form bits (M .form m s j) ≡ by-sign s (eqb j i)
+      (s : Sign) (j : ℕ) → is-value m j ≡ true → true-form bits (M .form m s j) ≡ by-sign s (eqb j i)
   pub code : (i : ℕ) → is-value m i ≡ true → (bits : List ℕ) × (row (M .width m) bits ≡ true) × (M .reading m bits ≡ Some i)
   pub axioms-local : every (every (local (M .width m))) (M .axioms m) ≡ true
   pub form-local : (s : Sign) (i : ℕ) → is-value m i ≡ true → every (local (M .width m)) (members (M .form m s i)) ≡ true
@@ -90,12 +90,12 @@ module _ (M : Meaning) (m : ℕ) (s : is-size m ≡ true) (L : Lawful-on-rows M 
     reading-value = λ bits i e. let h = read-within (is-size m) (row (M .width m) bits) (M .reading m bits) i e in L .reading-value bits i (h .0) (h .1);
     reads = λ bits r. let r′ = sym (row-within bits) ∙ r in ap isSome (reading-within M m s bits r′) ∙ (L .reads bits r′ ∙ ap (satisfies bits) (sym (axioms-within M m s)));
     form-true = λ bits i e g j v. let h = read-within (is-size m) (row (M .width m) bits) (M .reading m bits) i e in
-      ap (true-form bits) (form-within M m s g j v) ∙ L .form-true bits i (h .0) (h .1) g j v;
+        ap (true-form bits) (form-within M m s g j v) ∙ L .form-true bits i (h .0) (h .1) g j v;
     code = λ i v. let h = L .code i v in (h .0, row-within (h .0) ∙ h .1, reading-within M m s (h .0) (h .1) ∙ h .2);
     axioms-local = subst (λ w. every (every (local w)) (guarded M .axioms m) ≡ true) (sym (width-within M m s))
-      (subst (λ cs. every (every (local (M .width m))) cs ≡ true) (sym (axioms-within M m s)) (L .axioms-local));
+        (subst (λ cs. every (every (local (M .width m))) cs ≡ true) (sym (axioms-within M m s)) (L .axioms-local));
     form-local = λ g i v. subst (λ w. every (local w) (members (guarded M .form m g i)) ≡ true) (sym (width-within M m s))
-      (subst (λ f. every (local (M .width m)) (members f) ≡ true) (sym (form-within M m s g i v)) (L .form-local g i v));
+        (subst (λ f. every (local (M .width m)) (members f) ≡ true) (sym (form-within M m s g i v)) (L .form-local g i v));
     axioms-words = subst (λ cs. words-of cs ≤ 8192) (sym (axioms-within M m s)) (L .axioms-words);
     form-least = λ g i v. subst (λ f. 1 ≤ length (members f)) (sym (form-within M m s g i v)) (L .form-least g i v);
     form-most = λ g i v. subst (λ f. length (members f) ≤ 8) (sym (form-within M m s g i v)) (L .form-most g i v);

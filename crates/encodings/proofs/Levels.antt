@@ -1,90 +1,37 @@
 -- FR keeps the laws: its rows are those in which no 1 follows a 0, and the value is one more than the number of ones.
-use mathlib.Core.Path.{_≡_, refl, sym, ap, ap₂, subst, _∙_}
-use mathlib.Core.Bool.{Bool, true, false, not, _&&_, _||_, cond}
-use mathlib.Core.List.{List, [], _∷_, map}
-use mathlib.Core.Logic.{inl, inr, ⊎-elim}
-use Prim.Native.Nat.{ℕ, zero, suc, _+_, _-_, _*_, _≤_, _<_}
+use mathlib.Core.Path.{_≡_, refl, sym, ap, ap₂, _∙_}
+use mathlib.Core.Bool.{Bool, true, false, not, _&&_, cond}
+use mathlib.Core.List.{List, [], _∷_}
+use Prim.Native.Nat.{ℕ, zero, suc, _+_, _-_, _≤_, _<_}
 use native.Mathlib.Omega.{arith}
-use lib.Dec.{eqb, leb, ltb}
-use lib.IntN.{ℤ, pos, negsuc}
-use lib.ListN.{length, getD, set}
-use Rattle.std.proofs.shelf.Tests.{and-from, eq-eqb, eqb-true, eqb-false, cond-both}
+use lib.Dec.{eqb, leb}
+use lib.IntN.{ℤ}
+use lib.ListN.{length}
+use Rattle.std.proofs.shelf.Tests.{eq-eqb, eqb-true, eqb-false, cond-both}
 use Rattle.std.proofs.shelf.Ways.{tells}
 use Rattle.std.specs.declared.option.Option.the-variants.{Some, None}
-use Rattle.formula.specs.Boolean.{Clause, opposite, row, satisfies, local, words-of, true-literal}
-use Rattle.formula.specs.Sheets.{numbers}
+use Rattle.formula.specs.Boolean.{row, satisfies, local, true-literal}
 use Rattle.formula.specs.Tests.{every}
-use Rattle.mapping.specs.Memory.{flat, over}
 use Rattle.mapping.specs.Meanings.{is-size, is-value, Lawful}
-use Rattle.encodings.specs.FullRegular.{at-least, less-than, link, links, bounds, regular, full-regular}
-use Rattle.encodings.proofs.Descents.{ones, falls, ones-most, on-below, stair, stair-row, stair-ones, stair-falls, scan, scan-is}
+use Rattle.encodings.specs.FullRegular.{at-least, less-than, link, links, bounds, full-regular-within, full-regular}
+use Rattle.encodings.proofs.Descents.{ones, falls, ones-most, on-below, stair, stair-row, stair-ones, stair-falls}
 use Rattle.encodings.proofs.Guard.{reading-within, reading-no-row}
 use Rattle.encodings.proofs.Limits.{size-low, size-high, value-low, value-high, value-from}
-use Rattle.encodings.proofs.Opposites.{opposite-local}
 use Rattle.encodings.proofs.Readers.{Lawful-lists, lists-keep, read-shown, read-unsatisfied}
-use Rattle.encodings.proofs.Runs.{every-numbers, words-numbers, numbers-more, numbers-none}
+use Rattle.encodings.proofs.Runs.{every-numbers, words-numbers}
 use Rattle.encodings.proofs.Rows.{row-length}
-use Rattle.encodings.proofs.Writing.{Writing, writing-pair, writing-all}
-
-at-least-is : (k : ℕ) → at-least (suc (suc k)) ≡ pos (suc k)
-at-least-is k = ap pos (omega arith)
-
-less-than-is : (k : ℕ) → less-than (suc (suc k)) ≡ negsuc k
-less-than-is k = ap opposite (at-least-is k)
-
--- a link by the place of its lower bit, counted from 0
-abbrev link-at : ℕ → Clause
-link-at k = negsuc (suc k) ∷ pos (suc k) ∷ []
-
-link-is : (k : ℕ) → link (suc (suc k)) ≡ link-at k
-link-is k =
-    let next : suc (suc k) + 1 ≡ suc (suc (suc k)) = omega arith in
-    ap₂ (λ (a b : ℤ). a ∷ b ∷ []) (ap less-than next ∙ less-than-is (suc k)) (at-least-is k)
-
-links-are : (k n : ℕ) → map link (numbers (suc (suc k)) n) ≡ map link-at (numbers k n)
-links-are k zero = refl
-links-are k (suc n) = ap₂ _∷_ (link-is k) (links-are (suc k) n)
-
--- the links from the second bit on are those of the row's tail
-links-tail : (b : ℕ) (bits : List ℕ) (k n : ℕ) →
-  satisfies (b ∷ bits) (map link-at (numbers (suc k) n)) ≡ satisfies bits (map link-at (numbers k n))
-links-tail b bits k zero = refl
-links-tail b bits k (suc n) =
-    ap (λ t. (not (eqb 1 (getD bits (suc k) 0)) || (eqb 1 (getD bits k 0) || false)) && t) (links-tail b bits (suc k) n)
-
-falls-last : (x : Bool) → true ≡ cond x true true
-falls-last true = refl
-falls-last false = refl
-
-falls-step : (x y : Bool) (f : Bool) (o : ℕ) →
-  ((not y || (x || false)) && cond y f (eqb o 0)) ≡ cond x (cond y f (eqb o 0)) (eqb (cond y (suc o) o) 0)
-falls-step true true f o = refl
-falls-step true false f o = refl
-falls-step false true f o = grind (arith, tells)
-falls-step false false f o = refl
-
-links-fall : (a : ℕ) (bits : List ℕ) → satisfies (a ∷ bits) (map link-at (numbers 0 (length bits))) ≡ falls (a ∷ bits)
-links-fall a [] = falls-last (eqb 1 a)
-links-fall a (b ∷ bits) =
-    ap (λ t. (not (eqb 1 b) || (eqb 1 a || false)) && t) (links-tail a (b ∷ bits) 0 (length bits) ∙ links-fall b bits) ∙
-    falls-step (eqb 1 a) (eqb 1 b) (falls bits) (ones bits)
-
--- a row satisfies the links exactly when no 1 follows a 0
-pub satisfies-links : (m : ℕ) (bits : List ℕ) → 2 ≤ m → length bits ≡ m - 1 → satisfies bits (links m) ≡ falls bits
-satisfies-links m [] h l = absurd (omega arith)
-satisfies-links m (a ∷ bits) h l =
-    let n : m - 2 ≡ length bits = omega arith in
-    ap (λ k. satisfies (a ∷ bits) (map link (numbers 2 k))) n ∙ (ap (satisfies (a ∷ bits)) (links-are 0 (length bits)) ∙ links-fall a bits)
+use Rattle.encodings.proofs.Links.{at-least-is, less-than-is, at-least-local, less-than-local, link-local, satisfies-links}
+use Rattle.encodings.proofs.Scans.{scan, scan-is}
 
 -- a value is the first, the last or an inner one
 pub bounds-by : (P : List ℤ → Type 0) (m i : ℕ) → is-value m i ≡ true → (i ≡ 1 → P (less-than 2 ∷ [])) →
-  (1 < i → i ≡ m → P (at-least m ∷ [])) → (1 < i → i < m → P (at-least i ∷ less-than (i + 1) ∷ [])) → P (bounds m i)
+    (1 < i → i ≡ m → P (at-least m ∷ [])) → (1 < i → i < m → P (at-least i ∷ less-than (i + 1) ∷ [])) → P (bounds m i)
 bounds-by P m i v first last inner =
     let low = value-low m i v in
     let high = value-high m i v in
     cond-both (eqb i 1) (less-than 2 ∷ []) (cond (eqb i m) (at-least m ∷ []) (at-least i ∷ less-than (i + 1) ∷ [])) P (λ e. first (eqb-true i 1 e))
     (λ e. let n = eqb-false i 1 e in cond-both (eqb i m) (at-least m ∷ []) (at-least i ∷ less-than (i + 1) ∷ []) P
-      (λ d. last (omega arith) (eqb-true i m d)) (λ d. let k = eqb-false i m d in inner (omega arith) (omega arith)))
+    (λ d. last (omega arith) (eqb-true i m d)) (λ d. let k = eqb-false i m d in inner (omega arith) (omega arith)))
 
 module _ (bits : List ℕ) (f : falls bits ≡ true) where
   -- "value j or more" is on exactly up to the value
@@ -104,17 +51,6 @@ module _ (bits : List ℕ) (f : falls bits ≡ true) where
       (λ e. let a = less-than-true 2 (omega arith) in ap (λ t. t && true) a ∙ grind (arith, tells))
       (λ l e. let a = at-least-true m (omega arith) in ap (λ t. t && true) a ∙ grind (arith, tells))
       (λ l h. let a = at-least-true j l in let b = less-than-true (j + 1) (omega arith) in ap₂ (λ t u. t && (u && true)) a b ∙ grind (arith, tells))
-
-at-least-local : (m j : ℕ) → 1 < j → j ≤ m → local (m - 1) (at-least j) ≡ true
-at-least-local m j low high = grind (arith, tells)
-
-less-than-local : (m j : ℕ) → 1 < j → j ≤ m → local (m - 1) (less-than j) ≡ true
-less-than-local m j low high = opposite-local (m - 1) (at-least j) ∙ at-least-local m j low high
-
-link-local : (m j : ℕ) → 1 < j → j < m → every (local (m - 1)) (link j) ≡ true
-link-local m j low high =
-    and-from (local (m - 1) (less-than (j + 1))) (local (m - 1) (at-least j) && true) (less-than-local m (j + 1) (omega arith) (omega arith))
-    (ap (λ t. t && true) (at-least-local m j low (omega arith)))
 
 bounds-local : (m i : ℕ) → 1 < m → is-value m i ≡ true → every (local (m - 1)) (bounds m i) ≡ true
 bounds-local m i two v = bounds-by (λ ls. every (local (m - 1)) ls ≡ true) m i v
@@ -152,10 +88,13 @@ module _ (m : ℕ) (s : is-size m ≡ true) where
   lists-at = record {
     width-least = let t = two in omega arith;
     width-most = let t = sixty-four in omega arith;
-    shows = λ bits r e. (suc (ones bits), value-from m (suc (ones bits)) (omega arith) (ones-below bits r),
-      λ j v. bounds-true bits (sym (falls-where bits r) ∙ e) m j (ones-below bits r) v);
+    shows = λ bits r e. (
+      suc (ones bits),
+      value-from m (suc (ones bits)) (omega arith) (ones-below bits r),
+      λ j v. bounds-true bits (sym (falls-where bits r) ∙ e) m j (ones-below bits r) v,
+    );
     code = λ i v. let r = stair-row (m - 1) (i - 1) in
-      (stair (m - 1) (i - 1), r, falls-where (stair (m - 1) (i - 1)) r ∙ stair-falls (m - 1) (i - 1) (stair-within i v), stair-shows i v);
+        (stair (m - 1) (i - 1), r, falls-where (stair (m - 1) (i - 1)) r ∙ stair-falls (m - 1) (i - 1) (stair-within i v), stair-shows i v);
     axioms-local = every-numbers (every (local (m - 1))) link 2 (m - 2) (λ j low high. link-local m j low (let t = two in omega arith));
     list-local = λ i v. bounds-local m i two v;
     axioms-words = let w = words-numbers link 3 2 (m - 2) (λ j. refl) in let t = sixty-four in omega arith;
@@ -163,17 +102,17 @@ module _ (m : ℕ) (s : is-size m ≡ true) where
     list-most = λ i v. bounds-by (λ ls. length ls ≤ 8) m i v (λ e. omega arith) (λ l e. omega arith) (λ l h. omega arith);
   }
 
-pub regular-lawful : Lawful full-regular
-regular-lawful = lists-keep (λ m. m - 1) links bounds lists-at
+pub full-regular-lawful : Lawful full-regular
+full-regular-lawful = lists-keep (λ m. m - 1) links bounds lists-at
 
 -- a row of FR reads as one more than its ones where no 1 follows a 0
 reading-falls : (m : ℕ) (bits : List ℕ) → is-size m ≡ true → (r f : Bool) → row (m - 1) bits ≡ r → falls bits ≡ f →
-  full-regular .reading m bits ≡ cond (r && f) (Some (suc (ones bits))) None
-reading-falls m bits s true true r f = reading-within regular m s bits r ∙
-    read-shown links (regular .form) m bits (suc (ones bits)) (falls-where m s bits r ∙ f)
+    full-regular .reading m bits ≡ cond (r && f) (Some (suc (ones bits))) None
+reading-falls m bits s true true r f = reading-within full-regular-within m s bits r ∙
+    read-shown links (full-regular-within .form) m bits (suc (ones bits)) (falls-where m s bits r ∙ f)
     (value-from m (suc (ones bits)) (omega arith) (ones-below m s bits r)) (λ j v. bounds-true bits f m j (ones-below m s bits r) v)
-reading-falls m bits s true false r f = reading-within regular m s bits r ∙ read-unsatisfied links (regular .form) m bits (falls-where m s bits r ∙ f)
-reading-falls m bits s false f r e = reading-no-row regular m bits r
+reading-falls m bits s true false r f = reading-within full-regular-within m s bits r ∙ read-unsatisfied links (full-regular-within .form) m bits (falls-where m s bits r ∙ f)
+reading-falls m bits s false f r e = reading-no-row full-regular-within m bits r
 
 -- so it is read in one pass
 pub reading-scanned : (m : ℕ) (bits : List ℕ) → is-size m ≡ true → length bits ≡ m - 1 → full-regular .reading m bits ≡ scan true 1 bits
@@ -181,18 +120,3 @@ reading-scanned m bits s l =
     let e : suc (ones bits) ≡ 1 + ones bits = omega arith in
     reading-falls m bits s (row (m - 1) bits) (falls bits) refl refl ∙
     (ap₂ (λ w n. cond (row w bits && falls bits) (Some n) None) (sym l) e ∙ sym (scan-is true 1 bits))
-
--- a pass over the links writes them one by one
-pub links-more : (before memory : List ℤ) (n j m : ℕ) (x y : ℤ) (all : List Clause) → j < m → n + 3 ≤ length before →
-  x ≡ less-than (j + 1) → y ≡ at-least j → Writing before memory n (map link (numbers j (m - j))) all →
-  Writing before (set (set (set memory n x) (n + 1) y) (n + 2) (pos 0)) (n + 3) (map link (numbers (j + 1) (m - (j + 1)))) all
-links-more before memory n j m x y all h l first second w =
-    let left = map link (numbers (j + 1) (m - (j + 1))) in
-    let parts : map link (numbers j (m - j)) ≡ (x ∷ y ∷ []) ∷ left =
-      ap (map link) (numbers-more j m h) ∙ ap₂ (λ (a b : ℤ). (a ∷ b ∷ []) ∷ left) (sym first) (sym second) in
-    writing-pair before memory n x y left all l (subst (λ cs. Writing before memory n cs all) parts w)
-
-pub links-all : (before memory : List ℤ) (n j m : ℕ) (all : List Clause) → m ≤ j → Writing before memory n (map link (numbers j (m - j))) all →
-  (n ≡ words-of all) × (memory ≡ over (flat all) before)
-links-all before memory n j m all h w =
-    writing-all before memory n all (subst (λ js. Writing before memory n (map link js) all) (numbers-none j m h) w)

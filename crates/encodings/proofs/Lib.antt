@@ -2,8 +2,10 @@ pub mod Descents
 pub mod Guard
 pub mod Levels
 pub mod Limits
+pub mod Links
 pub mod Opposites
 pub mod Readers
 pub mod Rows
 pub mod Runs
+pub mod Scans
 pub mod Writing

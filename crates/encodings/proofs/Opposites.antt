@@ -14,7 +14,7 @@ use Rattle.formula.specs.Tests.{every, some}
 use Rattle.formula.specs.declared.signed.Sign.{Sign}
 use Rattle.formula.specs.declared.signed.Sign.the-variants.{Plus, Minus}
 use Rattle.mapping.specs.Forms.{true-form, members}
-use Rattle.encodings.specs.Readings.{form-by}
+use Rattle.encodings.specs.ListedForms.{form-by}
 
 not-twice : (b : Bool) → b ≡ not (not b)
 not-twice true = refl
@@ -31,7 +31,7 @@ opposite-true bits w (pos (suc n)) h = refl
 opposite-true bits w (negsuc n) h = not-twice (eqb 1 (getD bits n 0))
 
 pub some-opposites : (bits : List ℕ) (w : ℕ) (ls : List ℤ) → every (local w) ls ≡ true →
-  some (true-literal bits) (map opposite ls) ≡ not (every (true-literal bits) ls)
+    some (true-literal bits) (map opposite ls) ≡ not (every (true-literal bits) ls)
 some-opposites bits w [] h = refl
 some-opposites bits w (l ∷ ls) h = let p = and-parts (local w l) (every (local w) ls) h in
     ap (λ t. t || some (true-literal bits) (map opposite ls)) (opposite-true bits w l (p .0)) ∙
@@ -39,7 +39,7 @@ some-opposites bits w (l ∷ ls) h = let p = and-parts (local w l) (every (local
 
 -- so the forms of a list are known by when its literals are all true
 pub form-by-true : (bits : List ℕ) (w : ℕ) (ls : List ℤ) → every (local w) ls ≡ true → (s : Sign) →
-  true-form bits (form-by ls s) ≡ by-sign s (every (true-literal bits) ls)
+    true-form bits (form-by ls s) ≡ by-sign s (every (true-literal bits) ls)
 form-by-true bits w ls h Plus = refl
 form-by-true bits w ls h Minus = some-opposites bits w ls h
 

@@ -22,7 +22,7 @@ numbers-none j m h = let left : m - j ≡ 0 = omega arith in ap (numbers j) left
 
 -- a test that holds of each number of the run
 pub every-numbers : {X : Type 0} (test : X → Bool) (f : ℕ → X) (s n : ℕ) →
-  ((k : ℕ) → s ≤ k → k < s + n → test (f k) ≡ true) → every test (map f (numbers s n)) ≡ true
+    ((k : ℕ) → s ≤ k → k < s + n → test (f k) ≡ true) → every test (map f (numbers s n)) ≡ true
 every-numbers test f s zero each = refl
 every-numbers test f s (suc n) each =
     and-from (test (f s)) (every test (map f (numbers (suc s) n))) (each s (omega arith) (omega arith))

@@ -1,6 +1,6 @@
 -- Clauses written into memory word by word.
 use mathlib.Core.Path.{_≡_, refl, sym, ap, ap₂, _∙_}
-use mathlib.Core.List.{List, [], _∷_, _++_, append-nil, append-assoc}
+use mathlib.Core.List.{List, [], _∷_, _++_, append-assoc}
 use Prim.Native.Nat.{ℕ, suc, _+_, _≤_, _<_}
 use native.Mathlib.Omega.{arith}
 use lib.IntN.{ℤ, pos}
@@ -15,7 +15,7 @@ written memory n ws = take n memory ++ (ws ++ drop (n + length ws) memory)
 
 -- one word, and then the rest behind it
 pub written-more : (memory : List ℤ) (n : ℕ) (w : ℤ) (ws : List ℤ) → n < length memory →
-  written (set memory n w) (n + 1) ws ≡ written memory n (w ∷ ws)
+    written (set memory n w) (n + 1) ws ≡ written memory n (w ∷ ws)
 written-more memory n w ws h =
     let e : n + 1 + length ws ≡ n + suc (length ws) = omega arith in
     ap₂ (λ a b. a ++ (ws ++ b)) (take-more-set memory n w h) (drop-set-lt (n + 1 + length ws) memory n w (omega arith) ∙ ap (λ k. drop k memory) e) ∙
@@ -38,12 +38,12 @@ writing-none memory all = record {
 }
 
 pub writing-all : (before memory : List ℤ) (n : ℕ) (all : List Clause) → Writing before memory n [] all →
-  (n ≡ words-of all) × (memory ≡ over (flat all) before)
+    (n ≡ words-of all) × (memory ≡ over (flat all) before)
 writing-all before memory n all w = (let e = w .words in omega arith, sym (written-none memory n) ∙ w .whole)
 
 -- a clause of two literals
 pub writing-pair : (before memory : List ℤ) (n : ℕ) (x y : ℤ) (rest all : List Clause) → n + 3 ≤ length before →
-  Writing before memory n ((x ∷ y ∷ []) ∷ rest) all → Writing before (set (set (set memory n x) (n + 1) y) (n + 2) (pos 0)) (n + 3) rest all
+    Writing before memory n ((x ∷ y ∷ []) ∷ rest) all → Writing before (set (set (set memory n x) (n + 1) y) (n + 2) (pos 0)) (n + 3) rest all
 writing-pair before memory n x y rest all h w =
     let l = w .long in
     let first = set memory n x in
@@ -56,9 +56,9 @@ writing-pair before memory n x y rest all h w =
     let three : n + 2 + 1 ≡ n + 3 = omega arith in
     record {
       whole =
-        ap (λ k. written third k (flat rest)) (sym three) ∙ (written-more second (n + 2) (pos 0) (flat rest) (omega arith) ∙
-        (ap (λ k. written second k (pos 0 ∷ flat rest)) (sym two) ∙ (written-more first (n + 1) y (pos 0 ∷ flat rest) (omega arith) ∙
-        (written-more memory n x (y ∷ pos 0 ∷ flat rest) (omega arith) ∙ w .whole))));
+          ap (λ k. written third k (flat rest)) (sym three) ∙ (written-more second (n + 2) (pos 0) (flat rest) (omega arith) ∙
+          (ap (λ k. written second k (pos 0 ∷ flat rest)) (sym two) ∙ (written-more first (n + 1) y (pos 0 ∷ flat rest) (omega arith) ∙
+          (written-more memory n x (y ∷ pos 0 ∷ flat rest) (omega arith) ∙ w .whole))));
       words = let e = w .words in omega arith;
       long = l3 ∙ (l2 ∙ (l1 ∙ l));
     }

@@ -7,7 +7,8 @@ use lib.IntN.{ℤ, pos}
 use Rattle.formula.specs.Boolean.{Clause, opposite}
 use Rattle.formula.specs.Sheets.{numbers}
 use Rattle.mapping.specs.Meanings.{Meaning, guarded}
-use Rattle.encodings.specs.Readings.{form-by, meaning-by}
+use Rattle.encodings.specs.ListedForms.{form-by}
+use Rattle.encodings.specs.Readings.{meaning-by}
 
 -- "value j or more", for j from 2 to m, is Boolean j - 1
 abbrev pub at-least : ℕ → ℤ
@@ -29,9 +30,10 @@ links m = map link (numbers 2 (m - 2))
 abbrev pub bounds : ℕ → ℕ → List ℤ
 bounds m i = cond (eqb i 1) (less-than 2 ∷ []) (cond (eqb i m) (at-least m ∷ []) (at-least i ∷ less-than (i + 1) ∷ []))
 
--- FR within its range, and nothing said outside
-abbrev pub regular : Meaning
-regular = meaning-by (λ m. m - 1) links (λ m s i. form-by (bounds m i) s)
+-- FR within its range
+abbrev pub full-regular-within : Meaning
+full-regular-within = meaning-by (λ m. m - 1) links (λ m s i. form-by (bounds m i) s)
 
+-- FR, with nothing said out of range
 abbrev pub full-regular : Meaning
-full-regular = guarded regular
+full-regular = guarded full-regular-within

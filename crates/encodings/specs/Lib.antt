@@ -1,3 +1,4 @@
 pub mod FullRegular
+pub mod ListedForms
 pub mod Names
 pub mod Readings

@@ -19,5 +19,6 @@ are-letters bytes a b = eqb (length bytes) 2 && eqb (getD bytes 0 0) a && eqb (g
 abbrev pub name-of : List ℕ → Option Name
 name-of bytes = cond (are-letters bytes 70 82) (Some FullRegular) None
 
+-- what each mapping means
 abbrev pub meaning-of : Name → Meaning
 meaning-of FullRegular = full-regular

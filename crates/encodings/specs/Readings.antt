@@ -1,32 +1,14 @@
--- What the mappings share: forms made from one list of literals, and the reading of a row. Assumes nothing.
+-- The reading that all mappings share. Assumes nothing.
 use mathlib.Core.Bool.{Bool, cond}
-use mathlib.Core.List.{List, map}
+use mathlib.Core.List.{List}
 use Prim.Native.Nat.{ℕ, zero, suc}
-use lib.IntN.{ℤ}
 use Rattle.std.specs.declared.option.Option.{Option}
 use Rattle.std.specs.declared.option.Option.the-variants.{Some, None}
-use Rattle.formula.specs.Boolean.{Clause, opposite, satisfies}
+use Rattle.formula.specs.Boolean.{Clause, satisfies}
 use Rattle.formula.specs.declared.signed.Sign.{Sign}
-use Rattle.formula.specs.declared.signed.Sign.the-variants.{Plus, Minus}
-use Rattle.mapping.specs.Forms.{Form, all-of, any-of, true-form}
-use Rattle.mapping.specs.declared.Kind.{Kind}
-use Rattle.mapping.specs.declared.Kind.the-variants.{AllOf, AnyOf}
+use Rattle.formula.specs.declared.signed.Sign.the-variants.{Plus}
+use Rattle.mapping.specs.Forms.{Form, true-form}
 use Rattle.mapping.specs.Meanings.{Meaning}
-
--- the forms of a value that its literals stand for: all of them with a plus, any of their opposites with a minus
-abbrev pub form-by : List ℤ → Sign → Form
-form-by ls Plus = all-of ls
-form-by ls Minus = any-of (map opposite ls)
-
--- a literal for a plus, its opposite for a minus
-abbrev pub signed-literal : Sign → ℤ → ℤ
-signed-literal Plus l = l
-signed-literal Minus l = opposite l
-
--- the kind of those forms
-abbrev pub kind-by : Sign → Kind
-kind-by Plus = AllOf
-kind-by Minus = AnyOf
 
 -- the first of the n values from s on that passes the test
 abbrev pub first-value : (ℕ → Bool) → ℕ → ℕ → Option ℕ

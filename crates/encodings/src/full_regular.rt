@@ -7,18 +7,17 @@ ghost use lib.ListN.{length};
 ghost use Rattle.mapping.specs.Meanings.{is-size, is-value};
 ghost use Rattle.mapping.specs.Memory.{over};
 ghost use Rattle.encodings.specs.FullRegular.{at-least, less-than, bounds, full-regular};
-ghost use Rattle.encodings.specs.Readings.{signed-literal};
+ghost use Rattle.encodings.specs.ListedForms.{signed-literal};
+use super::literals::kind;
+use super::literals::signed;
+use super::ranges::in_sizes;
+use super::ranges::in_values;
 use formula::Sign;
 use mapping::AXIOM_WORDS;
 use mapping::FORM_LITERALS;
 use mapping::Kind;
 use mapping::Mapping;
 use mapping::Shape;
-
-use super::literals::kind;
-use super::literals::signed;
-use super::ranges::in_sizes;
-use super::ranges::in_values;
 
 #[derive(Clone, Copy)]
 pub struct FullRegular;

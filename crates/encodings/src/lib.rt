@@ -1,7 +1,7 @@
 // The mappings from sized variables to Booleans.
 pub mod full_regular;
-pub mod names;
 mod literals;
+pub mod names;
 mod ranges;
 
 pub use full_regular::FullRegular;

@@ -2,12 +2,12 @@
 ghost use mathlib.Core.Path.{_≡_};
 ghost use lib.IntN.{negsuc};
 ghost use lib.Signed.{_≤ℤ_};
-ghost use Rattle.encodings.specs.Readings.{signed-literal, kind-by};
+ghost use Rattle.encodings.specs.ListedForms.{signed-literal, kind-by};
 use formula::Sign;
 use mapping::Kind;
 
 // A plus takes all of a value's literals, a minus any of their opposites.
-pub fn kind(sign: Sign) -> Kind
+pub(crate) fn kind(sign: Sign) -> Kind
     ensures { λ r. ⌜ r ≡ kind-by sign ⌝ }
 {
     match sign {
@@ -17,7 +17,7 @@ pub fn kind(sign: Sign) -> Kind
 }
 
 // A literal, or its opposite for a minus.
-pub fn signed(sign: Sign, literal: i32) -> i32
+pub(crate) fn signed(sign: Sign, literal: i32) -> i32
     requires { ⌜ negsuc 127 ≤ℤ literal ⌝ }
     ensures { λ r. ⌜ r ≡ signed-literal sign literal ⌝ }
 {

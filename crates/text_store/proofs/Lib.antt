@@ -1,6 +1,11 @@
 pub mod Backwards
+pub mod Cuts
 pub mod Figures
+pub mod Fits
+pub mod Held
+pub mod Legibility
 pub mod Lines
+pub mod Literals
 pub mod Marks
 pub mod Places
 pub mod Rows

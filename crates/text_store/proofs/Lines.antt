@@ -38,13 +38,23 @@ pub record Holds (line : Clause → List ℕ) (mark : ℕ) (fit : Clause → Boo
   pub words-are : word-count ≡ words-of cs
   pub count-is : count ≡ length cs
 
-closed-lines : (line : Clause → List ℕ) (mark : ℕ) (cs : List Clause) → Closed mark (lines line mark cs)
+pub closed-lines : (line : Clause → List ℕ) (mark : ℕ) (cs : List Clause) → Closed mark (lines line mark cs)
 closed-lines line mark [] = inl refl
 closed-lines line mark (c ∷ cs) = more (closed-lines line mark cs)
   where
     more : Closed mark (lines line mark cs) → Closed mark (lines line mark (c ∷ cs))
     more (inl e) = inr (line c, ap (λ bs. (line c ++ mark ∷ []) ++ bs) e ∙ append-nil (line c ++ mark ∷ []))
     more (inr p) = inr ((line c ++ mark ∷ []) ++ p .0, ap (λ bs. (line c ++ mark ∷ []) ++ bs) (p .1) ∙ sym (append-assoc (line c ++ mark ∷ []) (p .0) (mark ∷ [])))
+
+-- a clause is at least its mark, and at least one word
+pub lines-long : (line : Clause → List ℕ) (mark : ℕ) (cs : List Clause) → length cs ≤ length (lines line mark cs)
+lines-long line mark [] = omega arith
+lines-long line mark (c ∷ cs) =
+    omega (arith, length-append (line c ++ mark ∷ []) (lines line mark cs), length-push (line c) mark, lines-long line mark cs)
+
+pub words-long : (cs : List Clause) → length cs ≤ words-of cs
+words-long [] = omega arith
+words-long (c ∷ cs) = let more = words-long cs in omega arith
 
 module _ {line : Clause → List ℕ} {mark bound : ℕ} {read : List ℕ → Clause} {fit : Clause → Bool} (legible : Legible line mark bound read fit) where
   pub round-trip : (cs : List Clause) → every fit cs ≡ true → read-lines mark read (lines line mark cs) ≡ cs
@@ -59,7 +69,7 @@ module _ {line : Clause → List ℕ} {mark bound : ℕ} {read : List ℕ → Cl
   -- the last line begins where the unmarked bytes before the last mark begin
   last-line : (cs : List Clause) (c : Clause) (front piece : List ℕ) → fit c ≡ true → Closed mark front → clean mark piece ≡ true → front ++ (piece ++ mark ∷ []) ≡ lines line mark (cs ++ c ∷ []) → (front ≡ lines line mark cs) × (piece ≡ line c)
   last-line cs c front piece h closed unmarked e =
-      let both = sym (append-assoc front piece (mark ∷ [])) ∙ e ∙ joined-push (λ d. line d ++ mark ∷ []) cs c ∙ sym (append-assoc (lines line mark cs) (line c) (mark ∷ [])) in
+      let both = append-assoc front piece (mark ∷ []) ∙ e ∙ joined-push (λ d. line d ++ mark ∷ []) cs c ∙ sym (append-assoc (lines line mark cs) (line c) (mark ∷ [])) in
       let same = append-cancel-right (front ++ piece) (lines line mark cs ++ line c) (mark ∷ []) both in
       let begin = same-front mark front (lines line mark cs) piece (line c) closed (closed-lines line mark cs) unmarked (legible .unmarked c h) same in
       (begin, append-cancel-left (lines line mark cs) piece (line c) (ap (λ bs. bs ++ piece) (sym begin) ∙ same))
@@ -68,6 +78,9 @@ module _ {line : Clause → List ℕ} {mark bound : ℕ} {read : List ℕ → Cl
     -- the bytes tell the clauses
     pub list-is : read-lines mark read bytes ≡ cs
     list-is = ap (read-lines mark read) (sym (holds .whole)) ∙ round-trip cs (holds .fit-all)
+
+    pub holds-read : Holds line mark fit (read-lines mark read bytes) bytes word-count count
+    holds-read = subst (λ ds. Holds line mark fit ds bytes word-count count) (sym list-is) holds
 
     -- a clause more
     pub holds-put : (c : Clause) → fit c ≡ true → Holds line mark fit (cs ++ c ∷ []) (bytes ++ (line c ++ mark ∷ [])) (word-count + words c) (count + 1)

@@ -2,9 +2,9 @@
 use mathlib.Core.Path.{_≡_, refl, sym, ap, ap₂, _∙_}
 use mathlib.Core.Bool.{Bool, true, _&&_}
 use mathlib.Core.List.{List, [], _∷_, _++_, map}
-use Prim.Native.Nat.{ℕ, zero, suc, _+_}
+use Prim.Native.Nat.{ℕ, _+_}
 use native.Mathlib.Omega.{arith}
-use lib.ListN.{take}
+use lib.ListN.{length}
 use Rattle.std.proofs.shelf.Tests.{and-parts, and-from}
 use Rattle.formula.specs.Tests.{every, sum-of}
 
@@ -44,3 +44,7 @@ sum-append f (x ∷ xs) ys = let more = sum-append f xs ys in omega arith
 
 pub sum-push : {X : Type 0} (f : X → ℕ) (xs : List X) (x : X) → sum-of f (xs ++ x ∷ []) ≡ sum-of f xs + f x
 sum-push f xs x = let all = sum-append f xs (x ∷ []) in omega arith
+
+pub sum-ones : {X : Type 0} (xs : List X) → sum-of (λ _. 1) xs ≡ length xs
+sum-ones [] = refl
+sum-ones (x ∷ xs) = let more = sum-ones xs in omega arith

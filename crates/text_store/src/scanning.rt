@@ -6,6 +6,7 @@ ghost use lib.ListN.{length, take};
 ghost use Rattle.text_store.specs.Bytes.{Closed, Piece-from};
 
 // The last piece of bytes: where it begins, and how many of its bytes are below a bound.
+#[derive(Clone, Copy)]
 pub struct Piece {
     pub start: usize,
     pub lows: u64,

@@ -1,6 +1,9 @@
 pub mod Counting
 pub mod Filled
+pub mod Fitting
 pub mod Held
 pub mod Literals
+pub mod Loading
 pub mod Products
+pub mod Rooms
 pub mod Steps

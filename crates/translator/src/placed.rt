@@ -1,17 +1,21 @@
 // The forms of a clause, copied from the mapping, and the words of their product.
 ghost use mathlib.Core.Path.{_≡_};
 ghost use mathlib.Core.List.{map};
+ghost use Rattle.std.specs.shelf.Lists.{All};
 ghost use Prim.Native.Nat.{_+_, _≤_, _<_, _^_};
 ghost use lib.IntN.{ℤ};
 ghost use lib.ListN.{length, take};
 ghost use Rattle.formula.specs.Boolean.{number, words-of};
 ghost use Rattle.mapping.specs.Forms.{shifted, distributed};
 ghost use Rattle.translator.specs.Places.{place-at, form-at, reach};
-ghost use Rattle.translator.specs.Placed.{form-in};
+ghost use Rattle.translator.specs.Placed.{form-in, Few};
 use formula::Literal;
 use mapping::Kind;
 use mapping::Mapping;
 use crate::places::Place;
+
+// A clause has at most 16 literals, each with its form.
+pub const CLAUSE_FORMS: usize = 16;
 
 pub const NOWHERE: Place = Place { size: 0, start: 0 };
 
@@ -47,7 +51,7 @@ pub fn find_place(places: &[Place], variable: u32) -> Place
 // The form of a literal, as the mapping has it.
 pub fn load_form<M: Mapping>(mapping: &M, places: &[Place], literal: &Literal) -> PlacedForm
     ensures form { λ r. ⌜ form-in r ≡ form-at (M·Mapping .meaning) (now (places .entry)) (now (literal .entry)) ⌝ }
-    ensures few { λ r. ⌜ r .count ≤ 8 ⌝ }
+    ensures few { λ r. ⌜ Few r ⌝ }
 {
     let place = find_place(places, literal.variable);
     let mut literals = [0i32; 8];
@@ -58,4 +62,28 @@ pub fn load_form<M: Mapping>(mapping: &M, places: &[Place], literal: &Literal) -
         literals,
         start: place.start,
     }
+}
+
+// The forms of the literals of a clause, in order.
+pub fn load_forms<M: Mapping>(mapping: &M, places: &[Place], literals: &[Literal], forms: &mut [PlacedForm; CLAUSE_FORMS])
+    requires { ⌜ length (now literals) ≤ 16 ⌝ }
+    ensures forms { λ _. ⌜ map form-in (take (length (now (literals .entry))) (now (forms .exit))) ≡ map (form-at (M·Mapping .meaning) (now (places .entry))) (now (literals .entry)) ⌝ }
+    ensures few { λ _. ⌜ All Few (take (length (now (literals .entry))) (now (forms .exit))) ⌝ }
+{
+    for i in 0..literals.len() {
+        forms[i] = load_form(mapping, places, &literals[i]);
+    }
+}
+
+// The number of the last Boolean of the variables that the literals name.
+pub fn find_reach<M: Mapping>(mapping: &M, places: &[Place], literals: &[Literal]) -> u64
+    ensures { λ r. ⌜ r ≡ reach (M·Mapping .meaning) (now (places .entry)) (now (literals .entry)) ⌝ }
+{
+    let mut highest = 0u64;
+    for literal in literals {
+        let place = find_place(places, literal.variable);
+        let last = place.start as u64 + mapping.width(place.size) as u64;
+        highest = highest.max(last);
+    }
+    highest
 }

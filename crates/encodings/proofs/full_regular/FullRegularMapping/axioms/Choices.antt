@@ -9,4 +9,4 @@ use Rattle.encodings.proofs.full_regular.FullRegularMapping.axioms.Given as gi
 
 abbrev pub Inv-loop-j : given.InvT-loop-j
 Inv-loop-j l = (l .count + 6 ≡ 3 * l .j) ×
-  Writing (l .entry .memory) (l .memory) (l .count) (map link (numbers (l .j) (l .size - l .j))) (links (l .size))
+    Writing (l .entry .memory) (l .memory) (l .count) (map link (numbers (l .j) (l .size - l .j))) (links (l .size))

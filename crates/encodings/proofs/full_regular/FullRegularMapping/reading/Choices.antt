@@ -3,7 +3,7 @@ use mathlib.Core.Bool.{true}
 use mathlib.Core.Path.{_≡_}
 use Prim.Native.Nat.{_+_, _≤_}
 use lib.ListN.{drop}
-use Rattle.encodings.proofs.Descents.{scan}
+use Rattle.encodings.proofs.Scans.{scan}
 use Rattle.encodings.proofs.full_regular.FullRegularMapping.reading.Given as given
 
 abbrev pub Inv-loop-bit : given.InvT-loop-bit
