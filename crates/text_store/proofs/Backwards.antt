@@ -31,8 +31,8 @@ module _ (mark bound : ℕ) (bytes : List ℕ) where
       }
 
   -- how far the count can be
-  pub piece-room : (start count : ℕ) → Piece-from mark bound bytes start count → start + count ≤ length bytes
-  piece-room start count p =
+  pub piece-within : (start count : ℕ) → Piece-from mark bound bytes start count → start + count ≤ length bytes
+  piece-within start count p =
       let few = lows-le bound (p .piece ++ mark ∷ []) in
       omega (arith, ap length (p .whole), length-append (take start bytes) (p .piece ++ mark ∷ []), length-take-le start bytes (omega arith), p .count-is)
 

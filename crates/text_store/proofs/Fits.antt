@@ -10,11 +10,12 @@ use lib.IntN.{ℤ, pos, negsuc, natAbs}
 use lib.ListN.{length, drop, getD}
 use Rattle.std.specs.declared.option.Option.{Option}
 use Rattle.std.specs.declared.option.Option.the-variants.{Some, None}
-use Rattle.std.proofs.shelf.Lists.{at-drop-more, at-drop-all}
+use Rattle.std.specs.declared.result.Result.the-variants.{Ok}
+use Rattle.std.proofs.shelf.Lists.{at-drop-more}
 use Rattle.std.proofs.shelf.Tests.{and-from, and-left, and-right, le-leb, lt-leb, cond-true, cond-false, cases-bool}
-use Rattle.formula.specs.Boolean.{Clause, number}
+use Rattle.formula.specs.Boolean.{Clause, number, words}
 use Rattle.formula.specs.Tests.{every}
-use Rattle.store.specs.Stores.{fits, unfit}
+use Rattle.store.specs.Stores.{Terms, Contents, fits, unfit, words-left, answer-by, put-answer}
 
 pub number-is : (l : ℤ) → number l ≡ natAbs l
 number-is (pos n) = refl
@@ -44,3 +45,7 @@ module _ (largest : ℕ) where
       (λ t. and-from (fits largest l) (every (fits largest) c) t (unfit-none c (sym (cond-true (fits largest l) _ _ t) ∙ h)))
       (λ f. let found = sym (cond-false (fits largest l) (unfit largest c) (Some (number l)) f) in let clash : _≡_ {A = ℕ} 0 1 = cc in absurd (omega arith))
       (cases-bool (fits largest l))
+
+-- a clause that fits, with room for its words, is taken
+pub put-taken : {Cell : Type 0} (T : Terms Cell) (K : Contents Cell) (c : Clause) → unfit (T .largest) c ≡ None → words c ≤ words-left T K → put-answer T K c ≡ Ok tt
+put-taken T K c h k = ap (answer-by T K c) h ∙ cond-true (leb (words c) (words-left T K)) _ _ (le-leb (words c) (words-left T K) k)

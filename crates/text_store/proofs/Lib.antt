@@ -2,6 +2,7 @@ pub mod Backwards
 pub mod Cuts
 pub mod Figures
 pub mod Fits
+pub mod Fronts
 pub mod Held
 pub mod Legibility
 pub mod Lines

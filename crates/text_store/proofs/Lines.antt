@@ -4,7 +4,7 @@ use mathlib.Core.Path.{_≡_, refl, sym, ap, subst, _∙_}
 use mathlib.Core.Logic.{inl, inr}
 use mathlib.Core.Bool.{Bool, true}
 use mathlib.Core.List.{List, [], _∷_, _++_, map, append-nil, append-assoc}
-use Prim.Native.Nat.{ℕ, _+_, _-_, _≤_, _<_, suc}
+use Prim.Native.Nat.{ℕ, _+_, _-_, _*_, _≤_, _<_}
 use native.Mathlib.Omega.{arith}
 use lib.ListN.{length, take, drop, getD, length-append}
 use Rattle.std.specs.Joined.{joined}
@@ -13,6 +13,7 @@ use Rattle.std.proofs.shelf.Tests.{and-parts}
 use Rattle.formula.specs.Boolean.{Clause, words, words-of}
 use Rattle.formula.specs.Tests.{every}
 use Rattle.text_store.specs.Bytes.{pieces, clean, Closed, lows, Piece-from}
+use Rattle.text_store.proofs.Literals.{length-joined-le}
 use Rattle.text_store.proofs.Marks.{pieces-joined, same-front}
 use Rattle.text_store.proofs.Rows.{joined-push}
 use Rattle.text_store.proofs.Tests.{every-push, every-parts, every-weaker, map-back, sum-push}
@@ -25,11 +26,12 @@ lines line mark cs = joined (λ c. line c ++ mark ∷ []) cs
 abbrev pub read-lines : ℕ → (List ℕ → Clause) → List ℕ → List Clause
 read-lines mark read bytes = map read (pieces mark bytes)
 
--- a clause that fits has no mark in its line, is read back from it, and has as many words as low bytes
-pub record Legible (line : Clause → List ℕ) (mark bound : ℕ) (read : List ℕ → Clause) (fit : Clause → Bool) : Type 0 where
+-- a clause that fits has no mark in its line and is read back from it; its words are its low bytes, and none of them is too long
+pub record Legible (line : Clause → List ℕ) (mark bound most : ℕ) (read : List ℕ → Clause) (fit : Clause → Bool) : Type 0 where
   pub unmarked : (c : Clause) → fit c ≡ true → clean mark (line c) ≡ true
   pub read-back : (c : Clause) → fit c ≡ true → read (line c) ≡ c
   pub counted : (c : Clause) → fit c ≡ true → lows bound (line c ++ mark ∷ []) ≡ words c
+  pub short : (c : Clause) → fit c ≡ true → length (line c ++ mark ∷ []) ≤ most * words c
 
 -- bytes are the lines of clauses that fit, and the counts that a store keeps of them are right
 pub record Holds (line : Clause → List ℕ) (mark : ℕ) (fit : Clause → Bool) (cs : List Clause) (bytes : List ℕ) (word-count count : ℕ) : Type 0 where
@@ -56,7 +58,7 @@ pub words-long : (cs : List Clause) → length cs ≤ words-of cs
 words-long [] = omega arith
 words-long (c ∷ cs) = let more = words-long cs in omega arith
 
-module _ {line : Clause → List ℕ} {mark bound : ℕ} {read : List ℕ → Clause} {fit : Clause → Bool} (legible : Legible line mark bound read fit) where
+module _ {line : Clause → List ℕ} {mark bound most : ℕ} {read : List ℕ → Clause} {fit : Clause → Bool} (legible : Legible line mark bound most read fit) where
   pub round-trip : (cs : List Clause) → every fit cs ≡ true → read-lines mark read (lines line mark cs) ≡ cs
   round-trip cs h =
       let cut = pieces-joined mark line cs [] (every-weaker fit (λ c. clean mark (line c)) (legible .unmarked) cs h) in
@@ -65,6 +67,9 @@ module _ {line : Clause → List ℕ} {mark bound : ℕ} {read : List ℕ → Cl
   -- equal bytes, equal clauses
   pub same-clauses : (cs ds : List Clause) → every fit cs ≡ true → every fit ds ≡ true → lines line mark cs ≡ lines line mark ds → cs ≡ ds
   same-clauses cs ds h k e = sym (round-trip cs h) ∙ ap (read-lines mark read) e ∙ round-trip ds k
+
+  pub lines-short : (cs : List Clause) → every fit cs ≡ true → length (lines line mark cs) ≤ most * words-of cs
+  lines-short cs h = length-joined-le (λ c. line c ++ mark ∷ []) fit words most (legible .short) cs h
 
   -- the last line begins where the unmarked bytes before the last mark begin
   last-line : (cs : List Clause) (c : Clause) (front piece : List ℕ) → fit c ≡ true → Closed mark front → clean mark piece ≡ true → front ++ (piece ++ mark ∷ []) ≡ lines line mark (cs ++ c ∷ []) → (front ≡ lines line mark cs) × (piece ≡ line c)

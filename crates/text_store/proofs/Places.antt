@@ -52,8 +52,8 @@ wrote-then {place} {middle} {end} {xs} {ys} {before} {between} {after} h p q = r
 }
 
 -- what is left of the bytes to write has room behind those written
-pub wrote-room : {place end : ℕ} {xs before after : List ℕ} (ys : List ℕ) → Wrote place xs before end after → place + length (xs ++ ys) ≤ length before → end + length ys ≤ length after
-wrote-room {place} {end} {xs} {before} {after} ys w h =
+pub wrote-within : {place end : ℕ} {xs before after : List ℕ} (ys : List ℕ) → Wrote place xs before end after → place + length (xs ++ ys) ≤ length before → end + length ys ≤ length after
+wrote-within {place} {end} {xs} {before} {after} ys w h =
     let whole = length-append xs ys in
     let long = ap length (w .after-is) ∙ length-at-place place xs before (omega arith) in
     omega (arith, w .end-is)

@@ -1,3 +1,4 @@
 pub mod Bytes
+pub mod ByteStores
 pub mod TextStores
 pub mod Texts

@@ -4,10 +4,15 @@ use lib.ListN.{length}
 use Rattle.std.specs.Of.Vec.{vec-items}
 use Rattle.store.specs.Stores.{Terms, Contents}
 use Rattle.text_store.specs.declared.text_store.TextStore.{TextStore}
-use Rattle.text_store.specs.Texts.{text-terms, text-contents}
+use Rattle.text_store.specs.ByteStores.{byte-terms, byte-contents}
+use Rattle.text_store.specs.Texts.{text-clause, text-list, text-most}
+
+-- a text store over a buffer of so many bytes
+abbrev pub text-terms : ℕ → Terms ℕ
+text-terms bytes = byte-terms text-clause text-most bytes
 
 abbrev pub terms-of : TextStore → Terms ℕ
 terms-of s = text-terms (length (vec-items (s .bytes)))
 
 abbrev pub contents-of : TextStore → Contents ℕ
-contents-of s = text-contents (vec-items (s .bytes)) (s .held)
+contents-of s = byte-contents text-list (vec-items (s .bytes)) (s .held)

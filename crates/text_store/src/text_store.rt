@@ -6,7 +6,8 @@ ghost use lib.ListN.{length, take};
 ghost use Rattle.std.specs.Of.Vec.{vec-items};
 ghost use Rattle.formula.specs.Boolean.{words-of};
 ghost use Rattle.formula.specs.Tests.{every};
-ghost use Rattle.text_store.specs.Texts.{text-clauses, text-list, fit-clause};
+ghost use Rattle.text_store.specs.ByteStores.{fit-clause};
+ghost use Rattle.text_store.specs.Texts.{text-clauses, text-list};
 
 pub mod calls;
 

@@ -7,3 +7,4 @@ pub mod Loading
 pub mod Products
 pub mod Rooms
 pub mod Steps
+pub mod Worded

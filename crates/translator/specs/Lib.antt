@@ -1,3 +1,4 @@
 pub mod Filing
 pub mod Placed
 pub mod Places
+pub mod Words

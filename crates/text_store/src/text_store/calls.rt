@@ -4,8 +4,9 @@ ghost use Prim.Native.Nat.{ℕ, _-_, _<_};
 ghost use lib.ListN.{length};
 ghost use Rattle.std.specs.Of.Vec.{vec-items, vec-len};
 ghost use Rattle.store.specs.Stores.{put-answer, after-put, after-cut, after-clear};
-ghost use Rattle.text_store.specs.Texts.{text-terms, text-bounded, text-empty, Stands-for};
-ghost use Rattle.text_store.specs.TextStores.{terms-of, contents-of};
+ghost use Rattle.text_store.specs.ByteStores.{byte-bounded, byte-empty, Stands-for};
+ghost use Rattle.text_store.specs.Texts.{text-clause, text-most};
+ghost use Rattle.text_store.specs.TextStores.{text-terms, terms-of, contents-of};
 use super::TextStore;
 use crate::fitting::LARGEST;
 use crate::fitting::first_unfit;
@@ -27,7 +28,7 @@ const VISIBLE: u8 = 33;
 impl TextStore {
     // An empty store over a buffer, whose bytes it leaves.
     pub fn new(bytes: Vec<u8>) -> TextStore
-        ensures contents { λ r. ⌜ contents-of r ≡ text-empty (vec-items bytes) ⌝ }
+        ensures contents { λ r. ⌜ contents-of r ≡ byte-empty (vec-items bytes) ⌝ }
         ensures terms { λ r. ⌜ terms-of r ≡ text-terms (length (vec-items bytes)) ⌝ }
     {
         TextStore {
@@ -40,7 +41,7 @@ impl TextStore {
 
     // The text of the clauses held.
     pub fn held(&self) -> &[u8]
-        ensures { λ r. ⌜ Stands-for (now r) (contents-of (now (self .entry)) .list) ⌝ }
+        ensures { λ r. ⌜ Stands-for text-clause (now r) (contents-of (now (self .entry)) .list) ⌝ }
     {
         &self.bytes.as_slice()[..self.held]
     }
@@ -59,7 +60,7 @@ impl TextStore {
         ensures after { λ _. ⌜ contents-of (now (self .exit)) ≡ after-cut (now (self .entry) .count - 1) (contents-of (now (self .entry))) ⌝ }
         ensures count { λ _. ⌜ now (self .exit) .count ≡ now (self .entry) .count - 1 ⌝ }
     {
-        let last = last_piece(&self.bytes.as_slice()[..self.held], b'\n', VISIBLE);
+        let last = last_piece(self.held(), b'\n', VISIBLE);
         self.held = last.start;
         self.words -= last.lows;
         self.count -= 1;
@@ -73,7 +74,7 @@ pub impl Store for TextStore as HeldAsText {
 
     ghost contents = { contents-of };
 
-    ghost laws = { λ s. text-bounded (length (contents-of s .memory)) };
+    ghost laws = { λ s. byte-bounded text-clause text-most (length (contents-of s .memory)) };
 
     fn put(&mut self, clause: &mut [i32]) -> Result<(), StoreFault> {
         if let Some(first) = first_unfit(clause) {

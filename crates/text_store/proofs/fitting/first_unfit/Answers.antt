@@ -12,7 +12,7 @@ use Rattle.std.specs.declared.option.Option.the-variants.{Some}
 use Rattle.std.proofs.shelf.Lists.{at-drop-all}
 use Rattle.std.proofs.shelf.Signed.{toZ-ofZ}
 use Rattle.store.specs.Stores.{unfit}
-use Rattle.text_store.specs.Texts.{text-largest}
+use Rattle.text_store.specs.ByteStores.{byte-largest}
 use Rattle.text_store.proofs.Fits.{fits-from, fits-not, unfit-next, unfit-here}
 use Rattle.text_store.proofs.fitting.first_unfit.Needs as need
 use Rattle.text_store.proofs.fitting.first_unfit.Needs.{After-unsigned-abs-number}
@@ -28,14 +28,14 @@ returns-then-number-eq0 c =
     let l = getD (c .args .clause .now) (c .loop-literal .literal-index) (pos 0) in
     let n = number-is (need.at·returns-then-number-eq0 c .After-unsigned-abs-number) in
     let out : (natAbs l ≡ 0) ⊎ (1048575 < natAbs l) = ⊎-elim (λ h. inl (sym n ∙ h)) (λ h. inr (omega (arith, h .1))) (c .then-number-eq0 .either) in
-    ap Some n ∙ sym (unfit-here text-largest (c .args .clause .now) (c .loop-literal .literal-index) (c .loop-literal-test .taken) (fits-not text-largest l out)) ∙ c .loop-literal .inv
+    ap Some n ∙ sym (unfit-here byte-largest (c .args .clause .now) (c .loop-literal .literal-index) (c .loop-literal-test .taken) (fits-not byte-largest l out)) ∙ c .loop-literal .inv
 
 pub loop-literal-again : need.loop-literal-again
 loop-literal-again c =
     let l = getD (c .args .clause .now) (c .loop-literal .literal-index) (pos 0) in
     let n = number-is (need.at·loop-literal-again c .After-unsigned-abs-number) in
     let some = c .if-number-eq0 .left in
-    unfit-next text-largest (c .args .clause .now) (c .loop-literal .literal-index) (c .loop-literal-test .taken) (fits-from text-largest l (omega arith) (omega arith)) ∙ c .loop-literal .inv
+    unfit-next byte-largest (c .args .clause .now) (c .loop-literal .literal-index) (c .loop-literal-test .taken) (fits-from byte-largest l (omega arith) (omega arith)) ∙ c .loop-literal .inv
 
 pub returns : need.returns
-returns c = sym (at-drop-all (unfit text-largest) (c .args .clause .now) (c .loop-literal .literal-index) (c .loop-literal-test .left)) ∙ c .loop-literal .inv
+returns c = sym (at-drop-all (unfit byte-largest) (c .args .clause .now) (c .loop-literal .literal-index) (c .loop-literal-test .left)) ∙ c .loop-literal .inv

@@ -1,12 +1,12 @@
 use borrow.Author.Needs.{needs}
-use Rattle.text_store.proofs.Backwards.{piece-none, piece-room, piece-low, piece-high, piece-first}
+use Rattle.text_store.proofs.Backwards.{piece-none, piece-within, piece-low, piece-high, piece-first}
 use Rattle.text_store.proofs.scanning.last_piece.Needs as need
 
 pub loop-start-holds : need.loop-start-holds
 loop-start-holds c = piece-none (c .args .mark) (c .args .bound) (c .args .bytes .now) (c .pre .closed) (c .pre .some) (c .pre .low)
 
 pub add-lows : need.add-lows
-add-lows c = let h = piece-room (c .args .mark) (c .args .bound) (c .args .bytes .now) (c .loop-start .start) (c .loop-start .lows) (c .loop-start .inv) in search needs
+add-lows c = let h = piece-within (c .args .mark) (c .args .bound) (c .args .bytes .now) (c .loop-start .start) (c .loop-start .lows) (c .loop-start .inv) in search needs
 
 pub loop-start-again-then-bytes-start-2 : need.loop-start-again-then-bytes-start-2
 loop-start-again-then-bytes-start-2 c =

@@ -3,7 +3,7 @@ use native.Mathlib.Omega.{arith}
 use lib.ListN.{length-append}
 use Rattle.std.specs.Joined.{joined}
 use Rattle.text_store.specs.Texts.{text-literal, text-line}
-use Rattle.text_store.proofs.Places.{wrote-room, wrote-then}
+use Rattle.text_store.proofs.Places.{wrote-within, wrote-then}
 use Rattle.text_store.proofs.writing.write_clause.Needs as need
 
 pub write-literals-literals-requires : need.write-literals-literals-requires
@@ -13,12 +13,12 @@ write-literals-literals-requires c κs =
 pub write-byte-line-requires : need.write-byte-line-requires
 write-byte-line-requires c κs =
     let all = length-append (text-line (c .args .clause .now)) (10 ∷ []) in
-    omega (arith, wrote-room (48 ∷ []) (c .write-literals-literals .ensures) (omega arith))
+    omega (arith, wrote-within (48 ∷ []) (c .write-literals-literals .ensures) (omega arith))
 
 pub write-byte-requires : need.write-byte-requires
 write-byte-requires c κs =
     let line = wrote-then (omega arith) (c .write-literals-literals .ensures) (c .write-byte-line .ensures) in
-    omega (arith, wrote-room (10 ∷ []) line (c .pre))
+    omega (arith, wrote-within (10 ∷ []) line (c .pre))
 
 pub returns : need.returns
 returns c = wrote-then (omega arith) (wrote-then (omega arith) (c .write-literals-literals .ensures) (c .write-byte-line .ensures)) (c .write-byte .ensures)

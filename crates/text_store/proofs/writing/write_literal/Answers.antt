@@ -10,7 +10,7 @@ use Rattle.std.proofs.shelf.Signed.{toZ-ofZ}
 use Rattle.text_store.specs.Bytes.{Wrote}
 use Rattle.text_store.specs.Texts.{text-literal}
 use Rattle.text_store.proofs.Figures.{sign-of, sign-minus, sign-none, signed-is}
-use Rattle.text_store.proofs.Places.{wrote-none, wrote-room, wrote-then}
+use Rattle.text_store.proofs.Places.{wrote-none, wrote-within, wrote-then}
 use Rattle.text_store.proofs.writing.write_literal.Needs as need
 use Rattle.text_store.proofs.writing.write_literal.Needs.{Joined-literal-lt0, After-unsigned-abs, then-literal-lt0, else-literal-lt0}
 
@@ -37,13 +37,13 @@ pub write-number-end-requires : need.write-number-end-requires
 write-number-end-requires c κs =
     let all = room c in
     let more = length-append (sign-of (c .args .literal) ++ decimal (c .unsigned-abs .result)) (32 ∷ []) in
-    wrote-room (decimal (c .unsigned-abs .result)) (front (need.at·write-number-end-requires c .Joined-literal-lt0)) (omega arith)
+    wrote-within (decimal (c .unsigned-abs .result)) (front (need.at·write-number-end-requires c .Joined-literal-lt0)) (omega arith)
 
 pub write-byte-requires : need.write-byte-requires
 write-byte-requires c κs =
     let at = need.at·write-byte-requires c in
     let done = wrote-then (omega arith) (front (at .Joined-literal-lt0)) (c .write-number-end .ensures) in
-    omega (arith, wrote-room (32 ∷ []) done (room (at .After-unsigned-abs)))
+    omega (arith, wrote-within (32 ∷ []) done (room (at .After-unsigned-abs)))
 
 pub returns : need.returns
 returns c =

@@ -9,7 +9,7 @@ use borrow.Author.Needs.{needs}
 use Rattle.std.proofs.shelf.Lists.{take-all}
 use Rattle.std.proofs.shelf.Signed.{toZ-ofZ}
 use Rattle.text_store.specs.Texts.{text-literal}
-use Rattle.text_store.proofs.Places.{wrote-none, wrote-room, wrote-then}
+use Rattle.text_store.proofs.Places.{wrote-none, wrote-within, wrote-then}
 use Rattle.text_store.proofs.Rows.{joined-step, length-joined-take}
 use Rattle.text_store.proofs.writing.write_literals.Needs as need
 
@@ -22,7 +22,7 @@ write-literal-end-requires c κs =
     let fit : SFits w32 l = search needs in
     let more = joined-step text-literal (c .args .literals .now) (c .loop-literal .literal-index) (pos 0) (c .loop-literal-test .taken) in
     let some = length-joined-take text-literal (c .loop-literal .literal-index + 1) (c .args .literals .now) in
-    rw (toZ-ofZ w32 l fit) (wrote-room (text-literal l) (c .loop-literal .inv) (omega (arith, ap length more)))
+    rw (toZ-ofZ w32 l fit) (wrote-within (text-literal l) (c .loop-literal .inv) (omega (arith, ap length more)))
 
 pub loop-literal-again : need.loop-literal-again
 loop-literal-again c =

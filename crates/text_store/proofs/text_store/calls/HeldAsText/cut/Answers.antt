@@ -3,8 +3,7 @@ use Prim.Native.Nat.{_-_, min}
 use native.Mathlib.Omega.{arith}
 use lib.ListN.{length}
 use Rattle.store.specs.Stores.{after-cut}
-use Rattle.text_store.specs.Texts.{text-terms}
-use Rattle.text_store.specs.TextStores.{contents-of}
+use Rattle.text_store.specs.TextStores.{text-terms, contents-of}
 use Rattle.text_store.proofs.Cuts.{cut-none, cut-cut, cut-least}
 use Rattle.text_store.proofs.text_store.calls.HeldAsText.cut.Needs as need
 
