@@ -1,14 +1,13 @@
 -- The first literal that does not fit, found literal by literal. Assumes nothing.
 use mathlib.Core.Path.{_≡_, refl, sym, ap, _∙_}
 use mathlib.Core.Logic.{_⊎_, inl, inr, ⊎-elim}
-use mathlib.Core.Bool.{Bool, true, false, _&&_, cond}
-use mathlib.Core.List.{List, [], _∷_}
+use mathlib.Core.Bool.{true, false}
+use mathlib.Core.List.{[], _∷_}
 use Prim.Native.Nat.{ℕ, _+_, _≤_, _<_}
 use native.Mathlib.Omega.{arith}
 use lib.Dec.{leb}
 use lib.IntN.{ℤ, pos, negsuc, natAbs}
 use lib.ListN.{length, drop, getD}
-use Rattle.std.specs.declared.option.Option.{Option}
 use Rattle.std.specs.declared.option.Option.the-variants.{Some, None}
 use Rattle.std.specs.declared.result.Result.the-variants.{Ok}
 use Rattle.std.proofs.shelf.Lists.{at-drop-more}
@@ -46,6 +45,6 @@ module _ (largest : ℕ) where
       (λ f. let found = sym (cond-false (fits largest l) (unfit largest c) (Some (number l)) f) in let clash : _≡_ {A = ℕ} 0 1 = cc in absurd (omega arith))
       (cases-bool (fits largest l))
 
--- a clause that fits, with room for its words, is taken
+-- a clause that fits, and whose words do not pass those left, is taken
 pub put-taken : {Cell : Type 0} (T : Terms Cell) (K : Contents Cell) (c : Clause) → unfit (T .largest) c ≡ None → words c ≤ words-left T K → put-answer T K c ≡ Ok tt
 put-taken T K c h k = ap (answer-by T K c) h ∙ cond-true (leb (words c) (words-left T K)) _ _ (le-leb (words c) (words-left T K) k)

@@ -1,28 +1,27 @@
 -- Clauses as text are legible, and at most nine bytes a word. Assumes nothing.
-use mathlib.Core.Path.{_≡_, refl, sym, ap, _∙_}
-use mathlib.Core.Bool.{Bool, true, false, not, cond}
-use mathlib.Core.List.{List, [], _∷_, _++_, map, append-nil}
-use Prim.Native.Nat.{ℕ, _+_, _*_, _/_, _%_, _^_, _≤_, _<_, suc}
+use mathlib.Core.Path.{_≡_, refl, ap, _∙_}
+use mathlib.Core.Bool.{true}
+use mathlib.Core.List.{List, [], _∷_, map, append-nil}
+use Prim.Native.Nat.{ℕ, _+_, _*_, _%_, _^_, _≤_, _<_, suc}
 use native.Mathlib.Omega.{arith}
-use lib.Dec.{eqb, leb, ltb, lit≤, lit<}
+use lib.Dec.{eqb, leb, lit<}
 use lib.IntN.{ℤ, pos, negsuc, negℤ}
 use lib.ListN.{length, length-append}
-use lib.Signed.{mag}
 use Rattle.std.specs.Joined.{joined}
 use Rattle.std.specs.Reads.{value}
 use Rattle.std.specs.Written.{decimal, signed}
 use Rattle.std.proofs.shelf.Decimals.{decimal-by-steps, decimal-reads, decimal-some, length-signed-le}
 use Rattle.std.proofs.shelf.Tests.{and-parts, and-from, le-leb, leb-true, cond-false, ne-eqb}
-use Rattle.formula.specs.Boolean.{Clause, number, words, words-of}
-use Rattle.formula.specs.Tests.{every, sum-of}
+use Rattle.formula.specs.Boolean.{Clause, number, words}
+use Rattle.formula.specs.Tests.{every}
 use Rattle.store.specs.Stores.{fits}
-use Rattle.text_store.specs.Bytes.{pieces, clean, lows}
+use Rattle.text_store.specs.Bytes.{clean, lows}
 use Rattle.text_store.specs.ByteStores.{byte-largest, fit-clause}
 use Rattle.text_store.specs.Texts.{text-literal, text-line, text-clause, word-literal, line-clause, text-most}
 use Rattle.text_store.proofs.Lines.{Legible}
 use Rattle.text_store.proofs.Literals.{lows-append, clean-append, lows-high, clean-high, lows-joined, clean-joined, length-joined-le}
 use Rattle.text_store.proofs.Marks.{pieces-joined}
-use Rattle.text_store.proofs.Tests.{every-append, every-push, every-weaker, map-back, sum-ones}
+use Rattle.text_store.proofs.Tests.{every-push, every-weaker, map-back, sum-ones}
 
 -- digits are 48 and more, so a minus sign is none
 digits-high : (n : ℕ) → n < 2 ^ 64 → every (leb 48) (decimal n) ≡ true

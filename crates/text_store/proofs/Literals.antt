@@ -1,5 +1,5 @@
 -- Literals in a row, each with one low byte and not too long: what a line of them counts and measures. Assumes nothing.
-use mathlib.Core.Path.{_≡_, refl, sym, ap, _∙_}
+use mathlib.Core.Path.{_≡_, refl}
 use mathlib.Core.Bool.{Bool, true, not, cond}
 use mathlib.Core.List.{List, [], _∷_, _++_}
 use Prim.Native.Nat.{ℕ, _+_, _*_, _≤_, _<_}
@@ -9,7 +9,7 @@ use lib.Dec.{eqb, leb, ltb}
 use lib.IntN.{ℤ}
 use lib.ListN.{length, length-append}
 use Rattle.std.specs.Joined.{joined}
-use Rattle.std.proofs.shelf.Tests.{and-parts, and-from, leb-true, ne-eqb, not-from-false}
+use Rattle.std.proofs.shelf.Tests.{and-parts, leb-true, ne-eqb, not-from-false}
 use Rattle.std.proofs.shelf.Ways.{tells}
 use Rattle.formula.specs.Boolean.{Clause}
 use Rattle.formula.specs.Tests.{every, sum-of}

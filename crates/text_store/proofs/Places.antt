@@ -1,14 +1,14 @@
 -- Writes at a place, one behind the other. Assumes nothing.
 use mathlib.Core.Path.{_≡_, refl, sym, ap, _∙_}
-use mathlib.Core.List.{List, [], _∷_, _++_, append-assoc}
+use mathlib.Core.List.{List, [], _∷_, _++_}
 use Prim.Native.Nat.{ℕ, _+_, _≤_, _<_}
 use native.Mathlib.Nat.{add-zero}
 use native.Mathlib.Numerals.{add-one}
 use native.Mathlib.Omega.{arith}
-use lib.ListN.{length, take, drop, set, length-append, length-drop, take-append-drop}
+use lib.ListN.{length, take, drop, set, length-append, take-append-drop}
 use lib.Seq.{paste}
 use Rattle.std.proofs.shelf.Edits.{paste-all, paste-paste, take-paste, length-paste}
-use Rattle.std.proofs.shelf.Lists.{set-split, take-all, length-take-le}
+use Rattle.std.proofs.shelf.Lists.{set-split, take-all}
 use Rattle.text_store.specs.Bytes.{at-place, Wrote}
 
 -- a write is a copy of all of its bytes
@@ -51,7 +51,7 @@ wrote-then {place} {middle} {end} {xs} {ys} {before} {between} {after} h p q = r
   after-is = q .after-is ∙ ap (λ n. at-place n ys between) (p .end-is) ∙ ap (at-place (place + length xs) ys) (p .after-is) ∙ write-behind place xs ys before h;
 }
 
--- what is left of the bytes to write has room behind those written
+-- what is left of the bytes to write stays within the buffer
 pub wrote-within : {place end : ℕ} {xs before after : List ℕ} (ys : List ℕ) → Wrote place xs before end after → place + length (xs ++ ys) ≤ length before → end + length ys ≤ length after
 wrote-within {place} {end} {xs} {before} {after} ys w h =
     let whole = length-append xs ys in

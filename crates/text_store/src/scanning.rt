@@ -1,6 +1,4 @@
 // Finds the last clause of a text.
-ghost use mathlib.Core.Path.{_≡_};
-ghost use mathlib.Core.List.{List};
 ghost use Prim.Native.Nat.{_<_};
 ghost use lib.ListN.{length, take};
 ghost use Rattle.text_store.specs.Bytes.{Closed, Piece-from};

@@ -1,5 +1,4 @@
 // Writes clauses as text into a buffer. Each function says where what it wrote ends.
-ghost use mathlib.Core.Path.{_≡_};
 ghost use mathlib.Core.List.{[], _∷_};
 ghost use Prim.Native.Nat.{_+_, _<_, _≤_};
 ghost use lib.ListN.{length};

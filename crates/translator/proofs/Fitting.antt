@@ -25,19 +25,19 @@ use Rattle.translator.specs.declared.placed.PlacedForm.{PlacedForm}
 use Rattle.translator.specs.Places.{place-at, form-at, reach}
 use Rattle.translator.specs.Placed.{of-kind, form-in, own-literals, Few, Small}
 
-every-from : {X : Type 0} (p q : X → Bool) → ((x : X) → p x ≡ true → q x ≡ true) → (xs : List X) → every p xs ≡ true → every q xs ≡ true
+pub every-from : {X : Type 0} (p q : X → Bool) → ((x : X) → p x ≡ true → q x ≡ true) → (xs : List X) → every p xs ≡ true → every q xs ≡ true
 every-from p q step [] h = refl
 every-from p q step (x ∷ xs) h =
     let both = and-parts (p x) (every p xs) h in
     and-from (q x) (every q xs) (step x (both .0)) (every-from p q step xs (both .1))
 
-every-both : {X : Type 0} (p : X → Bool) (xs ys : List X) → every p xs ≡ true → every p ys ≡ true → every p (xs ++ ys) ≡ true
+pub every-both : {X : Type 0} (p : X → Bool) (xs ys : List X) → every p xs ≡ true → every p ys ≡ true → every p (xs ++ ys) ≡ true
 every-both p [] ys h k = k
 every-both p (x ∷ xs) ys h k =
     let both = and-parts (p x) (every p xs) h in
     and-from (p x) (every p (xs ++ ys)) (both .0) (every-both p xs ys (both .1) k)
 
-every-map : {X Y : Type 0} (p : Y → Bool) (f : X → Y) (xs : List X) → every (λ x. p (f x)) xs ≡ true → every p (map f xs) ≡ true
+pub every-map : {X Y : Type 0} (p : Y → Bool) (f : X → Y) (xs : List X) → every (λ x. p (f x)) xs ≡ true → every p (map f xs) ≡ true
 every-map p f [] h = refl
 every-map p f (x ∷ xs) h =
     let both = and-parts (p (f x)) (every (λ y. p (f y)) xs) h in

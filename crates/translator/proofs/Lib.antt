@@ -1,3 +1,4 @@
+pub mod AxiomWords
 pub mod Counting
 pub mod Filled
 pub mod Fitting

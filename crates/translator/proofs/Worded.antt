@@ -25,7 +25,7 @@ use Rattle.translator.specs.Words.{ended-in, shifted-word}
 use Rattle.translator.proofs.Filled.{with-none, with-one, taken-first, taken-rest}
 
 -- a word that is no end goes on with the clause
-ended-in-more : (c : Clause) (w : ℤ) (ws : List ℤ) → (w ≡ pos 0 → ⊥) → ended-in c (w ∷ ws) ≡ ended-in (c ++ w ∷ []) ws
+pub ended-in-more : (c : Clause) (w : ℤ) (ws : List ℤ) → (w ≡ pos 0 → ⊥) → ended-in c (w ∷ ws) ≡ ended-in (c ++ w ∷ []) ws
 ended-in-more c (pos zero) ws h = absurd (h refl)
 ended-in-more c (pos (suc n)) ws h = refl
 ended-in-more c (negsuc n) ws h = refl

@@ -3,7 +3,7 @@ ghost use mathlib.Core.Path.{_≡_};
 ghost use Prim.Native.Nat.{ℕ, _-_, _<_};
 ghost use lib.ListN.{length};
 ghost use Rattle.std.specs.Of.Vec.{vec-items, vec-len};
-ghost use Rattle.store.specs.Stores.{put-answer, after-put, after-cut, after-clear};
+ghost use Rattle.store.specs.Stores.{put-answer, after-put, after-cut};
 ghost use Rattle.text_store.specs.ByteStores.{byte-bounded, byte-empty, Stands-for};
 ghost use Rattle.text_store.specs.Texts.{text-clause, text-most};
 ghost use Rattle.text_store.specs.TextStores.{text-terms, terms-of, contents-of};
@@ -76,7 +76,13 @@ pub impl Store for TextStore as HeldAsText {
 
     ghost laws = { λ s. byte-bounded text-clause text-most (length (contents-of s .memory)) };
 
-    fn put(&mut self, clause: &mut [i32]) -> Result<(), StoreFault> {
+    fn put(&mut self, clause: &mut [i32]) -> Result<(), StoreFault>
+        ensures answer { λ r. ⌜ r ≡ put-answer (terms-of (now (self .entry))) (contents-of (now (self .entry))) (now (clause .entry)) ⌝ }
+        ensures after { λ r. ⌜ contents-of (now (self .exit)) ≡ after-put r (terms-of (now (self .entry))) (contents-of (now (self .entry))) (now (clause .entry)) ⌝ }
+        ensures lent { λ _. ⌜ now (clause .exit) ≡ now (clause .entry) ⌝ }
+        ensures same { λ _. ⌜ terms-of (now (self .exit)) ≡ terms-of (now (self .entry)) ⌝ }
+        ensures long { λ _. ⌜ length (contents-of (now (self .exit)) .memory) ≡ length (contents-of (now (self .entry)) .memory) ⌝ }
+    {
         if let Some(first) = first_unfit(clause) {
             return Err(StoreFault::NumbersSpent(Details {
                 first,

@@ -1,12 +1,11 @@
 use mathlib.Core.Path.{ap}
-use mathlib.Core.List.{[], _∷_}
-use Prim.Native.Nat.{ℕ, _+_, _%_, _^_, _<_}
+use Prim.Native.Nat.{ℕ, _^_, _<_}
 use native.Mathlib.Omega.{arith}
 use lib.ListN.{length}
 use borrow.Author.Needs.{needs}
 use Rattle.text_store.specs.Bytes.{Wrote}
 use Rattle.text_store.proofs.Figures.{leading, leading-none, leading-some, decimal-last, length-decimal}
-use Rattle.text_store.proofs.Places.{wrote-none, wrote-within, wrote-then}
+use Rattle.text_store.proofs.Places.{wrote-none, wrote-then}
 use Rattle.text_store.proofs.writing.+write_number.Needs as need
 use Rattle.text_store.proofs.writing.+write_number.Needs.{Joined-n-ge10, then-n-ge10, else-n-ge10}
 

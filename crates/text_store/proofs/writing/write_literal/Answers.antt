@@ -30,12 +30,12 @@ parts c =
     let number = c .unsigned-abs .ensures .value ∙ ap natAbs same in
     ap (λ s. s ++ 32 ∷ []) (signed-is (c .args .literal) ∙ ap (λ n. sign-of (c .args .literal) ++ decimal n) (sym number))
 
-room : (c : After-unsigned-abs) → c .args .at + length ((sign-of (c .args .literal) ++ decimal (c .unsigned-abs .result)) ++ 32 ∷ []) ≤ length (c .args .out .now)
-room c = rw (parts c) at (c .pre)
+within : (c : After-unsigned-abs) → c .args .at + length ((sign-of (c .args .literal) ++ decimal (c .unsigned-abs .result)) ++ 32 ∷ []) ≤ length (c .args .out .now)
+within c = rw (parts c) at (c .pre)
 
 pub write-number-end-requires : need.write-number-end-requires
 write-number-end-requires c κs =
-    let all = room c in
+    let all = within c in
     let more = length-append (sign-of (c .args .literal) ++ decimal (c .unsigned-abs .result)) (32 ∷ []) in
     wrote-within (decimal (c .unsigned-abs .result)) (front (need.at·write-number-end-requires c .Joined-literal-lt0)) (omega arith)
 
@@ -43,7 +43,7 @@ pub write-byte-requires : need.write-byte-requires
 write-byte-requires c κs =
     let at = need.at·write-byte-requires c in
     let done = wrote-then (omega arith) (front (at .Joined-literal-lt0)) (c .write-number-end .ensures) in
-    omega (arith, wrote-within (32 ∷ []) done (room (at .After-unsigned-abs)))
+    omega (arith, wrote-within (32 ∷ []) done (within (at .After-unsigned-abs)))
 
 pub returns : need.returns
 returns c =

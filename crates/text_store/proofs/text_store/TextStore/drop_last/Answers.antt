@@ -1,4 +1,4 @@
-use mathlib.Core.Path.{_≡_, refl, _∙_}
+use mathlib.Core.Path.{refl, _∙_}
 use lib.Dec.{lit<}
 use lib.ListN.{take}
 use Rattle.std.specs.Of.Vec.{vec-items}
@@ -7,10 +7,7 @@ use Rattle.text_store.proofs.Fronts.{fronted}
 use Rattle.text_store.proofs.Held.{held-closed, held-some, cut-words, cut-front, cut-contents}
 use Rattle.text_store.proofs.Legibility.{text-legible}
 use Rattle.text_store.proofs.text_store.TextStore.drop_last.Needs as need
-use Rattle.text_store.proofs.text_store.TextStore.drop_last.Needs.{After-held, After-last-piece-last}
-
-text : (c : After-held) → c .held .result .now ≡ take (c .args .self .now .held) (vec-items (c .args .self .now .bytes))
-text c = c .held .ensures .text ∙ c .args .self .now .whole
+use Rattle.text_store.proofs.text_store.TextStore.drop_last.Needs.{After-last-piece-last}
 
 piece : (c : After-last-piece-last) → Piece-from 10 33 (take (c .args .self .now .held) (vec-items (c .args .self .now .bytes))) (c .last-piece-last .result .start) (c .last-piece-last .result .lows)
 piece c = rw (c .held .ensures .text ∙ c .args .self .now .whole) at (c .last-piece-last .ensures .piece)

@@ -1,5 +1,5 @@
 use mathlib.Core.Path.{_≡_}
-use Prim.Native.Nat.{_-_, _≤_, min}
+use Prim.Native.Nat.{_≤_, min}
 use Rattle.store.specs.Stores.{after-cut}
 use Rattle.text_store.specs.TextStores.{contents-of}
 use Rattle.text_store.proofs.text_store.calls.HeldAsText.cut.Given as given

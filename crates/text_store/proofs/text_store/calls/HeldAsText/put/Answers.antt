@@ -59,9 +59,11 @@ returns c =
     let fits = fit (at .Else-words-left) in
     let left = enough (at .Else-words-left) in
     let done = wrote (at .After-write-clause-self) in
+    let long = put-long text-legible (fronted s) clause fits left _ _ done in
     record {
       answer = sym (put-taken (terms-of s) (contents-of s) clause (sym (c .in-rest .ensures tt)) (omega (arith, left, s .worded)));
       after = put-contents text-legible (fronted s) clause fits left _ _ done;
       lent = refl;
-      same = ap text-terms (put-long text-legible (fronted s) clause fits left _ _ done);
+      same = ap text-terms long;
+      long = long;
     }
