@@ -108,10 +108,12 @@ module _ {line : Clause → List ℕ} {mark bound most : ℕ} {read : List ℕ �
         let last = last-line ds c (take start bytes) (piece .piece) fit-last before (piece .unmarked) (piece .whole ∙ sym (holds .whole) ∙ ap (lines line mark) split) in
         let spent : low ≡ words c = piece .count-is ∙ ap (λ bs. lows bound (bs ++ mark ∷ [])) (last .1) ∙ legible .counted c fit-last in
         let sum : words-of cs ≡ words-of ds + words c = ap words-of split ∙ sum-push words ds c in
-        let enough : low ≤ word-count = omega (arith, holds .words-are) in
-        (enough, record {
-          whole = sym (last .0);
-          fit-all = fits .0;
-          words-are = omega (arith, holds .words-are);
-          count-is = sym (length-take-le (count - 1) cs (omega arith));
-        })
+        let enough : low ≤ word-count = omega (arith, holds .words-are) in (
+          enough,
+          record {
+            whole = sym (last .0);
+            fit-all = fits .0;
+            words-are = omega (arith, holds .words-are);
+            count-is = sym (length-take-le (count - 1) cs (omega arith));
+          },
+        )

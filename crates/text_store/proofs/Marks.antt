@@ -25,12 +25,6 @@ module _ (mark : ℕ) where
       let parts = and-parts (not (eqb mark b)) (clean mark piece) h in
       cond-false (eqb mark b) _ _ (not-true (eqb mark b) (parts .0)) ∙ ap (onto b) (pieces-ended piece rest (parts .1))
 
-  pub pieces-clean : (bytes : List ℕ) → clean mark bytes ≡ true → pieces mark bytes ≡ []
-  pieces-clean [] h = refl
-  pieces-clean (b ∷ bytes) h =
-      let parts = and-parts (not (eqb mark b)) (clean mark bytes) h in
-      cond-false (eqb mark b) _ _ (not-true (eqb mark b) (parts .0)) ∙ ap (onto b) (pieces-clean bytes (parts .1))
-
   -- what is written with a mark behind each piece is cut into the same pieces
   pub pieces-joined : {X : Type 0} (f : X → List ℕ) (xs : List X) (rest : List ℕ) → every (λ x. clean mark (f x)) xs ≡ true → pieces mark (joined (λ x. f x ++ mark ∷ []) xs ++ rest) ≡ map f xs ++ pieces mark rest
   pieces-joined f [] rest h = refl

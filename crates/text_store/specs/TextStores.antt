@@ -11,8 +11,10 @@ use Rattle.text_store.specs.Texts.{text-clause, text-list, text-most}
 abbrev pub text-terms : ℕ → Terms ℕ
 text-terms bytes = byte-terms text-clause text-most bytes
 
+-- what a text store was made with
 abbrev pub terms-of : TextStore → Terms ℕ
 terms-of s = text-terms (length (vec-items (s .bytes)))
 
+-- the clauses that its held bytes stand for, and all of its buffer
 abbrev pub contents-of : TextStore → Contents ℕ
 contents-of s = byte-contents text-list (vec-items (s .bytes)) (s .held)

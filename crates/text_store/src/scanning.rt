@@ -1,4 +1,4 @@
-// Finds the last clause of a text.
+// Finds the last of the pieces that a mark ends.
 ghost use Prim.Native.Nat.{_<_};
 ghost use lib.ListN.{length, take};
 ghost use Rattle.text_store.specs.Bytes.{Closed, Piece-from};

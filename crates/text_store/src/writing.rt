@@ -7,6 +7,7 @@ ghost use Rattle.std.specs.Written.{decimal};
 ghost use Rattle.text_store.specs.Bytes.{Wrote};
 ghost use Rattle.text_store.specs.Texts.{text-literal, text-clause};
 
+// One byte.
 fn write_byte(out: &mut [u8], at: usize, byte: u8) -> usize
     requires { ⌜ at < length (now out) ⌝ }
     ensures { λ r. ⌜ Wrote at (byte ∷ []) (now (out .entry)) r (now (out .exit)) ⌝ }

@@ -13,8 +13,8 @@ use Rattle.text_store.proofs.writing.+write_number.Needs.{Joined-n-ge10, then-
 front : (t : ℕ) (c : Joined-n-ge10 t) → Wrote (c .args .at) (leading (c .args .n)) (c .args .out .now) (c .if-n-ge10 .end) (c .if-n-ge10 .out)
 front t c =
     elim (c .if-n-ge10 .came) [
-      then-n-ge10 w ↦ rw (leading-some (c .args .n) (w .if-n-ge10 .taken), w .end-is, w .out-is) (w .write-number-end .ensures)
-    | else-n-ge10 w ↦ rw (leading-none (c .args .n) (w .if-n-ge10 .left), w .end-is, w .out-is) (wrote-none (c .args .at) (c .args .out .now))
+      | then-n-ge10 w ↦ rw (leading-some (c .args .n) (w .if-n-ge10 .taken), w .end-is, w .out-is) (w .write-number-end .ensures)
+      | else-n-ge10 w ↦ rw (leading-none (c .args .n) (w .if-n-ge10 .left), w .end-is, w .out-is) (wrote-none (c .args .at) (c .args .out .now))
     ]
 
 pub write-number-end-requires : need.write-number-end-requires

@@ -19,8 +19,8 @@ front : (c : Joined-literal-lt0) → Wrote (c .args .at) (sign-of (c .args .lite
 front c =
     let same = toZ-ofZ w32 (c .args .literal) (c .fits .literal) in
     elim (c .if-literal-lt0 .came) [
-      then-literal-lt0 w ↦ rw (sign-minus (c .args .literal) (rw same at (w .if-literal-lt0 .taken)), w .end-is, w .out-is) (w .write-byte-end .ensures)
-    | else-literal-lt0 w ↦ rw (sign-none (c .args .literal) (rw same at (w .if-literal-lt0 .left)), w .end-is, w .out-is) (wrote-none (c .args .at) (c .args .out .now))
+      | then-literal-lt0 w ↦ rw (sign-minus (c .args .literal) (rw same at (w .if-literal-lt0 .taken)), w .end-is, w .out-is) (w .write-byte-end .ensures)
+      | else-literal-lt0 w ↦ rw (sign-none (c .args .literal) (rw same at (w .if-literal-lt0 .left)), w .end-is, w .out-is) (wrote-none (c .args .at) (c .args .out .now))
     ]
 
 -- the literal is its sign, its number and a space

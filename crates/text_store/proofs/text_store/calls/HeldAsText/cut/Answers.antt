@@ -16,12 +16,11 @@ pub loop-self-again : need.loop-self-again
 loop-self-again c =
     let s = c .args .self .now in
     let t = c .loop-self .self in
-    let less = c .drop-last .ensures .count in
-    (
+    let less = c .drop-last .ensures .count in (
       c .drop-last .ensures .after
-      ∙ ap (after-cut (t .count - 1)) (c .loop-self .inv .0)
-      ∙ cut-cut (contents-of s) (t .count - 1) (t .count) (omega arith)
-      ∙ ap (λ n. after-cut n (contents-of s)) (sym less),
+          ∙ ap (after-cut (t .count - 1)) (c .loop-self .inv .0)
+          ∙ cut-cut (contents-of s) (t .count - 1) (t .count) (omega arith)
+          ∙ ap (λ n. after-cut n (contents-of s)) (sym less),
       omega (arith, c .loop-self .inv .1),
       omega (arith, c .loop-self .inv .2),
     )

@@ -1,0 +1,16 @@
+-- What a workbook was made of, and what it holds. Assumes nothing.
+use Prim.Native.Nat.{ℕ}
+use Rattle.mapping.specs.Meanings.{Meaning}
+use Rattle.store.specs.Stores.{Terms, Contents}
+use Rattle.workbook.specs.Pages.{Page}
+
+-- a book number, a mapping and a store's terms: no call changes them
+pub record Made (Cell : Type 0) : Type 0 where
+  pub book : ℕ
+  pub meaning : Meaning
+  pub terms : Terms Cell
+
+-- what is remembered of the sheet, and what the store holds
+pub record State (Cell : Type 0) : Type 0 where
+  pub page : Page
+  pub contents : Contents Cell

@@ -1,0 +1,7 @@
+// A workbook: a sheet of variables and clauses, and the store that holds its translation.
+pub mod faults;
+pub mod sheet;
+
+pub use faults::FromStore;
+pub use faults::WorkbookFault;
+pub use sheet::Sheet;
