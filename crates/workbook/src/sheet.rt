@@ -7,6 +7,8 @@ use formula::Literal;
 use mapping::AXIOM_WORDS;
 use translator::Place;
 
+pub mod calls;
+
 // An entry: a variable of a size, or a clause of so many literals.
 #[derive(Clone, Copy)]
 pub enum Slot {
