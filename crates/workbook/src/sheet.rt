@@ -19,12 +19,12 @@ pub enum Slot {
 // At most 255 variables, 1,024 entries and 4,096 literals, for which there is memory, and the words in which a mapping hands out axioms.
 #[derive(Drop)]
 pub struct Sheet {
-    places: Vec<Place>,
+    pub(crate) places: Vec<Place>,
     slots: Vec<Slot>,
     literals: Vec<Literal>,
-    total: u32,
+    pub(crate) total: u32,
     clauses: u32,
-    memory: Box<[i32; AXIOM_WORDS]>,
+    pub(crate) memory: Box<[i32; AXIOM_WORDS]>,
     ghost places_kept: { 255 ≤ vec-cap places },
     ghost slots_kept: { 1024 ≤ vec-cap slots },
     ghost literals_kept: { 4096 ≤ vec-cap literals },
