@@ -1,3 +1,4 @@
 pub mod Checked
 pub mod Slots
 pub mod Spaces
+pub mod Stating
