@@ -1,11 +1,10 @@
 // The calls of a workbook.
 ghost use mathlib.Core.Path.{_≡_};
-ghost use Rattle.store.specs.Stores.{after-clear};
+ghost use lib.ListN.{length};
 ghost use Rattle.workbook.specs.Books.{made-of, state-of};
 ghost use Rattle.workbook.specs.Calls.{declare-answer, declared, state-answer, stated};
 ghost use Rattle.workbook.specs.Faults.{on-ok};
-ghost use Rattle.workbook.specs.Pages.{empty-page};
-ghost use Rattle.workbook.specs.Sheets.{page-in};
+ghost use Rattle.workbook.specs.States.{new-state};
 use crate::faults::FromStore;
 use crate::faults::WorkbookFault;
 use crate::sheet::Sheet;
@@ -23,11 +22,18 @@ pub struct Workbook<M, S> {
     sheet: Sheet,
 }
 
+// What a workbook is made of, beside its number.
+pub struct Parts<M, S> {
+    pub mapping: M,
+    pub store: S,
+    pub sheet: Sheet,
+}
+
 impl<M: Mapping, S: Store> Workbook<M, S> {
     // A workbook of this number over a mapping and a store, which it clears, in the memory of a sheet, which it clears too.
     pub fn new(book: u32, mapping: M, store: S, sheet: Sheet) -> Workbook<M, S>
         ensures made { λ r. ⌜ made-of (M·Mapping .meaning) (S·Store .terms) r ≡ record { book = book; meaning = M·Mapping .meaning; terms = S·Store .terms store } ⌝ }
-        ensures state { λ r. ⌜ state-of (S·Store .contents) r ≡ record { page = empty-page; contents = after-clear (S·Store .contents store) } ⌝ }
+        ensures state { λ r. ⌜ state-of (S·Store .contents) r ≡ new-state (S·Store .contents store) ⌝ }
     {
         let mut store = store;
         let mut sheet = sheet;
@@ -63,5 +69,38 @@ impl<M: Mapping, S: Store> Workbook<M, S> {
         self.sheet.check_clause(literals)?;
         file_clause(&self.mapping, &mut self.store, self.sheet.places.as_slice(), literals)?;
         Ok(self.sheet.add_clause(literals))
+    }
+
+    // The number of Booleans of all declared variables.
+    pub fn booleans(&self) -> u32
+        ensures { λ r. ⌜ r ≡ state-of (S·Store .contents) (now (self .entry)) .page .total ⌝ }
+    {
+        self.sheet.total
+    }
+
+    // The number of clauses that the store holds.
+    pub fn stored_clauses(&self) -> u64
+        ensures { λ r. ⌜ r ≡ length (state-of (S·Store .contents) (now (self .entry)) .contents .list) ⌝ }
+    {
+        self.store.count()
+    }
+
+    // The workbook's end: what it was made of comes back.
+    pub fn finish(self) -> Parts<M, S>
+        ensures mapping { λ r. ⌜ r .mapping ≡ self .mapping ⌝ }
+        ensures store { λ r. ⌜ r .store ≡ self .store ⌝ }
+        ensures sheet { λ r. ⌜ r .sheet ≡ self .sheet ⌝ }
+    {
+        let Workbook {
+            book: _,
+            mapping,
+            store,
+            sheet,
+        } = self;
+        Parts {
+            mapping,
+            store,
+            sheet,
+        }
     }
 }

@@ -3,6 +3,7 @@ pub mod book;
 pub mod faults;
 pub mod sheet;
 
+pub use book::Parts;
 pub use book::Workbook;
 pub use faults::FromStore;
 pub use faults::WorkbookFault;
