@@ -1,3 +1,6 @@
+pub mod Clauses
+pub mod Commands
 pub mod Cutting
 pub mod Digits
+pub mod Parting
 pub mod Signed
