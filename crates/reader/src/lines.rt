@@ -106,3 +106,17 @@ pub fn read_line(heap: Global, line: &[u8]) -> Result<Line, AllocError>
         _ => Ok(Line::Unreadable),
     }
 }
+
+// The lines of a text, each with what it says.
+pub fn read_lines(heap: Global, text: &[u8]) -> Result<Vec<Line>, AllocError>
+    ensures { λ r. ⌜ made r (λ v. map said-of (vec-items v) ≡ map said (lines (now (text .entry)))) ⌝ }
+{
+    let mut all = Vec::new(heap);
+    let mut rest = text;
+    while !rest.is_empty() {
+        let cut = cut_at(rest, b'\n');
+        all.push(read_line(heap, cut.front)?)?;
+        rest = cut.rest.unwrap_or(&[]);
+    }
+    Ok(all)
+}

@@ -29,6 +29,18 @@ pub enum Answer {
     Refused(WorkbookFault),
 }
 
+impl Answer {
+    // The answer as a call gives it.
+    pub fn result(self) -> Result<u32, WorkbookFault>
+        ensures { λ r. ⌜ answer-of r ≡ self ⌝ }
+    {
+        match self {
+            Answer::Number(number) => Ok(number),
+            Answer::Refused(fault) => Err(fault),
+        }
+    }
+}
+
 // Makes one call.
 fn make_call<M: Mapping, S: Store>(workbook: &mut Workbook<M, S>, call: &Call) -> Answer
     ensures answer { λ r. ⌜ r ≡ answer-of (answer-to (made-of (M·Mapping .meaning) (S·Store .terms) (now (workbook .entry))) (state-of (S·Store .contents) (now (workbook .entry))) (step-of (now (call .entry)))) ⌝ }
