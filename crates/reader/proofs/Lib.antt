@@ -4,4 +4,5 @@ pub mod Cutting
 pub mod Digits
 pub mod LineByLine
 pub mod Parting
+pub mod Rowed
 pub mod Signed

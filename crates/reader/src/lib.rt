@@ -4,6 +4,7 @@ pub mod faults;
 mod fields;
 mod lines;
 mod printing;
+pub mod program;
 
 pub use faults::FromWorkbook;
 pub use faults::LineFault;

@@ -1,6 +1,7 @@
 // What the program prints.
 ghost use mathlib.Core.Path.{_≡_};
-ghost use mathlib.Core.List.{_++_};
+ghost use mathlib.Core.List.{map, _++_};
+ghost use lib.ListN.{length, drop};
 ghost use Rattle.std.specs.Of.Vec.{vec-items};
 ghost use Rattle.std.specs.Of.String.{string-bytes};
 ghost use Rattle.std.specs.Vec.{made};
@@ -59,4 +60,57 @@ fn find_outcome(line: &Line, answers: &[Answer]) -> Result<u32, LineFault>
         Line::Declare(_) | Line::State(_) => read_answer(answers),
         Line::Mapping(_) | Line::Unreadable => Err(LineFault::Line),
     }
+}
+
+// The number of calls that a line makes.
+fn count_calls(line: &Line) -> usize
+    ensures { λ r. ⌜ r ≡ length (steps-in (said-of (now (line .entry)))) ⌝ }
+{
+    match line {
+        Line::Declare(_) | Line::State(_) => 1,
+        Line::Mapping(_) | Line::Unreadable => 0,
+    }
+}
+
+// The answers behind the first so many.
+fn skip_answers(answers: &[Answer], count: usize) -> &[Answer]
+    ensures { λ r. ⌜ now r ≡ drop count (now (answers .entry)) ⌝ }
+{
+    if count > answers.len() {
+        return &[];
+    }
+    &answers[count..]
+}
+
+// Prints a line that is refused, and nothing else.
+fn print_outcome(heap: Global, out: &mut Vec<u8>, line: u64, outcome: Result<u32, LineFault>) -> Result<(), AllocError>
+    ensures { λ r. ⌜ made r (λ _. vec-items (now (out .exit)) ≡ vec-items (now (out .entry)) ++ outcome-line line outcome) ⌝ }
+{
+    if let Err(fault) = outcome {
+        let text = refused_line(heap, line, fault.refusal())?;
+        out.extend_from_slice(text.as_bytes())?;
+    }
+    Ok(())
+}
+
+// Prints the lines that are refused, from line 2 on.
+pub fn print_refusals(heap: Global, out: &mut Vec<u8>, lines: &[Line], answers: &[Answer]) -> Result<(), AllocError>
+    ensures { λ r. ⌜ made r (λ _. vec-items (now (out .exit)) ≡ vec-items (now (out .entry)) ++ refused-lines 2 (map said-of (now (lines .entry))) (now (answers .entry))) ⌝ }
+{
+    let mut left = answers;
+    for (i, line) in lines.iter().enumerate() {
+        print_outcome(heap, out, i as u64 + 2, find_outcome(line, left))?;
+        left = skip_answers(left, count_calls(line));
+    }
+    Ok(())
+}
+
+// Prints the header and the clauses behind it.
+pub fn print_clauses(heap: Global, out: &mut Vec<u8>, booleans: u32, clauses: u64, text: &[u8]) -> Result<(), AllocError>
+    ensures { λ r. ⌜ made r (λ _. vec-items (now (out .exit)) ≡ vec-items (now (out .entry)) ++ (header booleans clauses ++ now (text .entry))) ⌝ }
+{
+    let first = header_line(heap, booleans, clauses)?;
+    out.extend_from_slice(first.as_bytes())?;
+    out.extend_from_slice(text)?;
+    Ok(())
 }
