@@ -6,3 +6,4 @@ pub mod LineByLine
 pub mod Parting
 pub mod Rowed
 pub mod Signed
+pub mod Translating

@@ -71,7 +71,7 @@ abbrev pub header : ℕ → ℕ → List ℕ
 header booleans clauses = codes "p cnf " ++ (decimal booleans ++ (32 ∷ (decimal clauses ++ 10 ∷ [])))
 
 -- the program has a workbook over a text store of 32,768 bytes
-abbrev pub buffer : List ℕ
+unfoldable pub buffer : List ℕ
 buffer = replicate 32768 0
 
 abbrev pub made-by : Meaning → Made ℕ

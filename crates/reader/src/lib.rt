@@ -8,3 +8,5 @@ pub mod program;
 
 pub use faults::FromWorkbook;
 pub use faults::LineFault;
+pub use program::INPUT_BYTES;
+pub use program::translate_text;

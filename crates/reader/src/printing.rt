@@ -83,7 +83,7 @@ fn skip_answers(answers: &[Answer], count: usize) -> &[Answer]
 }
 
 // Prints a line that is refused, and nothing else.
-fn print_outcome(heap: Global, out: &mut Vec<u8>, line: u64, outcome: Result<u32, LineFault>) -> Result<(), AllocError>
+pub fn print_outcome(heap: Global, out: &mut Vec<u8>, line: u64, outcome: Result<u32, LineFault>) -> Result<(), AllocError>
     ensures { λ r. ⌜ made r (λ _. vec-items (now (out .exit)) ≡ vec-items (now (out .entry)) ++ outcome-line line outcome) ⌝ }
 {
     if let Err(fault) = outcome {
