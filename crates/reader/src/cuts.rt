@@ -12,7 +12,7 @@ pub struct Cut<'a> {
 }
 
 // Cuts bytes at the first mark.
-pub fn cut_at(bytes: &[u8], mark: u8) -> Cut<'_>
+pub(crate) fn cut_at(bytes: &[u8], mark: u8) -> Cut<'_>
     ensures front { λ r. ⌜ now (r .front) ≡ before mark (now (bytes .entry)) ⌝ }
     ensures rest { λ r. ⌜ mapped value-of (r .rest) ≡ behind mark (now (bytes .entry)) ⌝ }
 {

@@ -14,7 +14,7 @@ fn is_digit(byte: u8) -> bool
 }
 
 // The number that 1 to 5 digits spell.
-pub fn read_number(field: &[u8]) -> Option<u32>
+pub(crate) fn read_number(field: &[u8]) -> Option<u32>
     ensures { λ r. ⌜ r ≡ number-of (now (field .entry)) ⌝ }
 {
     if field.is_empty() || field.len() > MOST_DIGITS {
@@ -31,7 +31,7 @@ pub fn read_number(field: &[u8]) -> Option<u32>
 }
 
 // A literal such as +1:2.
-pub fn read_literal(field: &[u8]) -> Option<Literal>
+pub(crate) fn read_literal(field: &[u8]) -> Option<Literal>
     ensures { λ r. ⌜ r ≡ literal-of (now (field .entry)) ⌝ }
 {
     let [first, rest @ ..] = field else {

@@ -93,7 +93,7 @@ fn read_clause(heap: Global, fields: &[u8]) -> Result<Line, AllocError>
 }
 
 // A line is a command byte and its fields.
-pub fn read_line(heap: Global, line: &[u8]) -> Result<Line, AllocError>
+pub(crate) fn read_line(heap: Global, line: &[u8]) -> Result<Line, AllocError>
     ensures { λ r. ⌜ made r (λ l. said-of l ≡ said (now (line .entry))) ⌝ }
 {
     let [command, fields @ ..] = line else {
@@ -108,7 +108,7 @@ pub fn read_line(heap: Global, line: &[u8]) -> Result<Line, AllocError>
 }
 
 // The lines of a text, each with what it says.
-pub fn read_lines(heap: Global, text: &[u8]) -> Result<Vec<Line>, AllocError>
+pub(crate) fn read_lines(heap: Global, text: &[u8]) -> Result<Vec<Line>, AllocError>
     ensures { λ r. ⌜ made r (λ v. map said-of (vec-items v) ≡ map said (lines (now (text .entry)))) ⌝ }
 {
     let mut all = Vec::new(heap);

@@ -83,7 +83,7 @@ fn skip_answers(answers: &[Answer], count: usize) -> &[Answer]
 }
 
 // Prints a line that is refused, and nothing else.
-pub fn print_outcome(heap: Global, out: &mut Vec<u8>, line: u64, outcome: Result<u32, LineFault>) -> Result<(), AllocError>
+pub(crate) fn print_outcome(heap: Global, out: &mut Vec<u8>, line: u64, outcome: Result<u32, LineFault>) -> Result<(), AllocError>
     ensures { λ r. ⌜ made r (λ _. vec-items (now (out .exit)) ≡ vec-items (now (out .entry)) ++ outcome-line line outcome) ⌝ }
 {
     if let Err(fault) = outcome {
@@ -94,7 +94,7 @@ pub fn print_outcome(heap: Global, out: &mut Vec<u8>, line: u64, outcome: Result
 }
 
 // Prints the lines that are refused, from line 2 on.
-pub fn print_refusals(heap: Global, out: &mut Vec<u8>, lines: &[Line], answers: &[Answer]) -> Result<(), AllocError>
+pub(crate) fn print_refusals(heap: Global, out: &mut Vec<u8>, lines: &[Line], answers: &[Answer]) -> Result<(), AllocError>
     ensures { λ r. ⌜ made r (λ _. vec-items (now (out .exit)) ≡ vec-items (now (out .entry)) ++ refused-lines 2 (map said-of (now (lines .entry))) (now (answers .entry))) ⌝ }
 {
     let mut left = answers;
@@ -106,7 +106,7 @@ pub fn print_refusals(heap: Global, out: &mut Vec<u8>, lines: &[Line], answers: 
 }
 
 // Prints the header and the clauses behind it.
-pub fn print_clauses(heap: Global, out: &mut Vec<u8>, booleans: u32, clauses: u64, text: &[u8]) -> Result<(), AllocError>
+pub(crate) fn print_clauses(heap: Global, out: &mut Vec<u8>, booleans: u32, clauses: u64, text: &[u8]) -> Result<(), AllocError>
     ensures { λ r. ⌜ made r (λ _. vec-items (now (out .exit)) ≡ vec-items (now (out .entry)) ++ (header booleans clauses ++ now (text .entry))) ⌝ }
 {
     let first = header_line(heap, booleans, clauses)?;

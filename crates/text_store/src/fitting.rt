@@ -7,7 +7,7 @@ ghost use Rattle.text_store.specs.ByteStores.{byte-largest};
 pub const LARGEST: u32 = 1_048_575;
 
 // The number of the first literal that does not fit.
-pub fn first_unfit(clause: &[i32]) -> Option<u64>
+pub(crate) fn first_unfit(clause: &[i32]) -> Option<u64>
     ensures { λ r. ⌜ r ≡ unfit byte-largest (now (clause .entry)) ⌝ }
 {
     for literal in clause {

@@ -11,7 +11,7 @@ pub struct Piece {
 }
 
 // Goes back from the mark at the end to the mark before it, or to the start.
-pub fn last_piece(bytes: &[u8], mark: u8, bound: u8) -> Piece
+pub(crate) fn last_piece(bytes: &[u8], mark: u8, bound: u8) -> Piece
     requires closed { ⌜ Closed mark (now bytes) ⌝ }
     requires some { ⌜ 0 < length (now bytes) ⌝ }
     requires low { ⌜ mark < bound ⌝ }

@@ -54,7 +54,7 @@ fn write_literals(out: &mut [u8], at: usize, literals: &[i32]) -> usize
 }
 
 // A clause: its literals, a zero and a newline.
-pub fn write_clause(out: &mut [u8], at: usize, clause: &[i32]) -> usize
+pub(crate) fn write_clause(out: &mut [u8], at: usize, clause: &[i32]) -> usize
     requires { ⌜ at + length (text-clause (now clause)) ≤ length (now out) ⌝ }
     ensures { λ r. ⌜ Wrote at (text-clause (now (clause .entry))) (now (out .entry)) r (now (out .exit)) ⌝ }
 {

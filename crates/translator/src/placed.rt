@@ -29,7 +29,7 @@ pub struct PlacedForm {
 }
 
 // A literal, moved behind the Booleans before its variable's own.
-pub fn shift(literal: i32, start: u32) -> i32
+pub(crate) fn shift(literal: i32, start: u32) -> i32
     requires { ⌜ number (shifted start literal) < 2 ^ 31 ⌝ }
     ensures { λ r. ⌜ r ≡ shifted start literal ⌝ }
 {
@@ -41,7 +41,7 @@ pub fn shift(literal: i32, start: u32) -> i32
 }
 
 // The place of a variable, and no place where there is none of its number.
-pub fn find_place(places: &[Place], variable: u32) -> Place
+pub(crate) fn find_place(places: &[Place], variable: u32) -> Place
     ensures { λ r. ⌜ r ≡ place-at (now (places .entry)) variable ⌝ }
 {
     let index = (variable as usize).saturating_sub(1);
@@ -49,7 +49,7 @@ pub fn find_place(places: &[Place], variable: u32) -> Place
 }
 
 // The form of a literal, as the mapping has it.
-pub fn load_form<M: Mapping>(mapping: &M, places: &[Place], literal: &Literal) -> PlacedForm
+pub(crate) fn load_form<M: Mapping>(mapping: &M, places: &[Place], literal: &Literal) -> PlacedForm
     ensures form { λ r. ⌜ form-in r ≡ form-at (M·Mapping .meaning) (now (places .entry)) (now (literal .entry)) ⌝ }
     ensures few { λ r. ⌜ Few r ⌝ }
 {
@@ -65,7 +65,7 @@ pub fn load_form<M: Mapping>(mapping: &M, places: &[Place], literal: &Literal) -
 }
 
 // The forms of the literals of a clause, in order.
-pub fn load_forms<M: Mapping>(mapping: &M, places: &[Place], literals: &[Literal], forms: &mut [PlacedForm; CLAUSE_FORMS])
+pub(crate) fn load_forms<M: Mapping>(mapping: &M, places: &[Place], literals: &[Literal], forms: &mut [PlacedForm; CLAUSE_FORMS])
     requires { ⌜ length (now literals) ≤ 16 ⌝ }
     ensures forms { λ _. ⌜ map form-in (take (length (now (literals .entry))) (now (forms .exit))) ≡ map (form-at (M·Mapping .meaning) (now (places .entry))) (now (literals .entry)) ⌝ }
     ensures few { λ _. ⌜ All Few (take (length (now (literals .entry))) (now (forms .exit))) ⌝ }
@@ -76,7 +76,7 @@ pub fn load_forms<M: Mapping>(mapping: &M, places: &[Place], literals: &[Literal
 }
 
 // The number of the last Boolean of the variables that the literals name.
-pub fn find_reach<M: Mapping>(mapping: &M, places: &[Place], literals: &[Literal]) -> u64
+pub(crate) fn find_reach<M: Mapping>(mapping: &M, places: &[Place], literals: &[Literal]) -> u64
     ensures { λ r. ⌜ r ≡ reach (M·Mapping .meaning) (now (places .entry)) (now (literals .entry)) ⌝ }
 {
     let mut highest = 0u64;

@@ -42,7 +42,7 @@ fn taken_of(form: &PlacedForm) -> u64
 }
 
 // The words of the clauses of a product of at most 16 forms: as many clauses as the splits multiply to, each with its literals and one for its end.
-pub fn count_words(forms: &[PlacedForm]) -> u64
+pub(crate) fn count_words(forms: &[PlacedForm]) -> u64
     requires { ⌜ All Few (now forms) ⌝ ∗ ⌜ length (now forms) ≤ 16 ⌝ }
     ensures { λ r. ⌜ r ≡ words-of (distributed (map form-in (now (forms .entry)))) ⌝ }
 {
@@ -75,7 +75,7 @@ fn put_literals(form: &PlacedForm, front: &mut [i32; CLAUSE_LITERALS], at: usize
 
 // Puts every clause of the product of these forms, each behind the first `used` literals of `front`.
 // The store has been asked for room, so no put refuses.
-pub fn put_product<S: Store>(store: &mut S, forms: &[PlacedForm], front: &mut [i32; CLAUSE_LITERALS], used: usize) -> Result<(), StoreFault>
+pub(crate) fn put_product<S: Store>(store: &mut S, forms: &[PlacedForm], front: &mut [i32; CLAUSE_LITERALS], used: usize) -> Result<(), StoreFault>
     requires { ⌜ Ready (S·Store .terms (now store)) (S·Store .contents (now store)) (now front) used (now forms) ⌝ }
     ensures answer { λ r. ⌜ r ≡ Ok tt ⌝ }
     ensures after { λ _. ⌜ S·Store .contents (now (store .exit)) ≡ with-all (S·Store .terms (now (store .entry))) (S·Store .contents (now (store .entry))) (product-behind (take used (now (front .entry))) (now (forms .entry))) ⌝ }

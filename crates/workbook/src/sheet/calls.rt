@@ -49,7 +49,7 @@ impl Sheet {
     }
 
     // Forgets every entry.
-    pub fn clear(&mut self)
+    pub(crate) fn clear(&mut self)
         ensures { λ _. ⌜ page-in (now (self .exit)) ≡ empty-page ⌝ }
     {
         self.places.clear();
