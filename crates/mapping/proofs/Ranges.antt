@@ -20,7 +20,7 @@ module _ (M : Meaning) (lawful : Lawful M) where
   by-size P outside m inside =
       ⊎-elim inside
       (λ no-size. subst (λ (N : Meaning). P (N .width m) (N .axioms m)) (sym (lawful .outside))
-        (subst (λ (b : Bool). P (cond b (M .width m) 0) (cond b (M .axioms m) [])) (sym no-size) outside))
+      (subst (λ (b : Bool). P (cond b (M .width m) 0) (cond b (M .axioms m) [])) (sym no-size) outside))
       (cases-bool (is-size m))
 
   pub widths-few : (m : ℕ) → M .width m ≤ 127
@@ -37,7 +37,7 @@ module _ (M : Meaning) (lawful : Lawful M) where
   by-value P outside m s i inside =
       ⊎-elim (λ yes-both. let both = and-parts (is-size m) (is-value m i) yes-both in inside (both .0) (both .1))
       (λ not-both. subst (λ (N : Meaning). P (N .form m s i)) (sym (lawful .outside))
-        (subst (λ (b : Bool). P (cond b (M .form m s i) (any-of []))) (sym not-both) outside))
+      (subst (λ (b : Bool). P (cond b (M .form m s i) (any-of []))) (sym not-both) outside))
       (cases-bool (is-size m && is-value m i))
 
   pub forms-few : (m : ℕ) (s : Sign) (i : ℕ) → length (members (M .form m s i)) ≤ 8

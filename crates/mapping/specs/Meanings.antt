@@ -49,7 +49,7 @@ pub record Lawful-at (M : Meaning) (m : ℕ) : Type 0 where
   pub reads : (bits : List ℕ) → row (M .width m) bits ≡ true → isSome (M .reading m bits) ≡ satisfies bits (M .axioms m)
   -- there the plus form of a value is true exactly when that value is read, the minus form exactly when it is not
   pub form-true : (bits : List ℕ) (i : ℕ) → M .reading m bits ≡ Some i → (s : Sign) (j : ℕ) → is-value m j ≡ true →
-    true-form bits (M .form m s j) ≡ by-sign s (eqb j i)
+      true-form bits (M .form m s j) ≡ by-sign s (eqb j i)
   -- each value is the reading of some row of bits
   pub code : (i : ℕ) → is-value m i ≡ true → (bits : List ℕ) × (row (M .width m) bits ≡ true) × (M .reading m bits ≡ Some i)
   -- axioms and forms speak of the variable's own Booleans

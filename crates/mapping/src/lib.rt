@@ -22,6 +22,7 @@ pub struct Shape {
 
 // The words that the axioms of one size may have, and the literals that a form may have.
 pub const AXIOM_WORDS: usize = 8192;
+
 pub const FORM_LITERALS: usize = 8;
 
 // A mapping is known by its meaning alone, which keeps the laws for every size; code asks for it by these calls.

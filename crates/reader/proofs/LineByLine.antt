@@ -35,7 +35,7 @@ module _ (text : List ℕ) where
   Reading all rest = map said-of all ++ map said (lines rest) ≡ map said (lines text)
 
   pub reading-more : (all : List Line) (rest : List ℕ) (line : Line) → 0 < length rest → said-of line ≡ said (before 10 rest) → Reading all rest →
-    Reading (all ++ line ∷ []) (valueOr (behind 10 rest) [])
+      Reading (all ++ line ∷ []) (valueOr (behind 10 rest) [])
   reading-more all rest line some is h =
       ap (λ (xs : List Said). xs ++ map said (lines (valueOr (behind 10 rest) []))) (map-push said-of all line)
       ∙ append-assoc (map said-of all) (said-of line ∷ []) (map said (lines (valueOr (behind 10 rest) [])))

@@ -20,7 +20,7 @@ parts-on-cut mark part [] = ap (λ (p : List ℕ). p ∷ []) (sym (append-nil pa
 parts-on-cut mark part (b ∷ bs) = by-test mark part b bs (eqb b mark) (parts-on-cut mark (part ++ b ∷ []) bs)
   where
     by-test : (mark : ℕ) (part : List ℕ) (b : ℕ) (bs : List ℕ) (t : Bool) → parts-on mark (part ++ b ∷ []) bs ≡ ((part ++ b ∷ []) ++ before mark bs) ∷ parts-behind mark (behind mark bs) →
-      cond t (part ∷ parts-on mark [] bs) (parts-on mark (part ++ b ∷ []) bs) ≡ (part ++ cond t [] (b ∷ before mark bs)) ∷ parts-behind mark (cond t (Some bs) (behind mark bs))
+        cond t (part ∷ parts-on mark [] bs) (parts-on mark (part ++ b ∷ []) bs) ≡ (part ++ cond t [] (b ∷ before mark bs)) ∷ parts-behind mark (cond t (Some bs) (behind mark bs))
     by-test mark part b bs true ih = ap (λ (p : List ℕ). p ∷ parts mark bs) (sym (append-nil part))
     by-test mark part b bs false ih = ih ∙ ap (λ (p : List ℕ). p ∷ parts-behind mark (behind mark bs)) (append-assoc part (b ∷ []) (before mark bs))
 

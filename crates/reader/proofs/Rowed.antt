@@ -37,7 +37,7 @@ module _ (all : List Line) where
 
     module _ (out : List ℕ) (left : List Answer) (i : ℕ) (h : Prints out left i) where
       pub prints-more : (line : Line) (more : List ℕ) (rest : List Answer) → i < length all → line ≡ getD all i line → more ≡ out ++ outcome-line (i + 2) (outcome (said-of line) left) →
-        rest ≡ drop (length (steps-in (said-of line))) left → Prints more rest (i + 1)
+          rest ≡ drop (length (steps-in (said-of line))) left → Prints more rest (i + 1)
       prints-more line more rest within read is skipped =
           let later = refused-lines (i + 1 + 2) (map said-of (drop (i + 1) all)) in
           let same : i + 1 + 2 ≡ i + 2 + 1 = omega arith in

@@ -33,5 +33,5 @@ module _ (field : List ℕ) (b : ℕ) (bs : List ℕ) (is : field ≡ b ∷ bs) 
       by-colon o e = by-variable (Some v) numbered ∙ ap (λ (x : Option (List ℕ)). given x (with-value sign v)) e
 
       pub by-value : (r : List ℕ) → behind 58 bs ≡ Some r → (o : Option ℕ) → number-of r ≡ o →
-        literal-of field ≡ given o (λ i. Some (record { variable = v; value = i; sign = sign }))
+          literal-of field ≡ given o (λ i. Some (record { variable = v; value = i; sign = sign }))
       by-value r cut o e = by-colon (Some r) cut ∙ ap (λ (x : Option ℕ). given x (λ i. Some (record { variable = v; value = i; sign = sign }))) e

@@ -28,7 +28,7 @@ length-answers D s [] = refl
 length-answers D s (c ∷ cs) = ap suc (length-answers D (after-step D s c) cs)
 
 module _ (M : Meaning) (ss : List Said) (D D′ : Made ℕ) (K : Contents ℕ) (steps : List Step) (before after : List Answer) (s : State ℕ) (n : ℕ)
-  (done : Done D K steps before after D′ s n) (made : D ≡ made-by M) (empty : K ≡ byte-empty buffer) (calls : steps ≡ joined steps-in ss) (long : length before ≡ length steps) where
+    (done : Done D K steps before after D′ s n) (made : D ≡ made-by M) (empty : K ≡ byte-empty buffer) (calls : steps ≡ joined steps-in ss) (long : length before ≡ length steps) where
   -- every place has an answer
   answers-are : after ≡ row-answers (made-by M) (new-state (byte-empty buffer)) (joined steps-in ss)
   answers-are =

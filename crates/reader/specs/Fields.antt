@@ -28,7 +28,7 @@ abbrev pub literal-of : List ℕ → Option Literal
 literal-of [] = None
 literal-of (b ∷ bs) =
     given (sign-of b) (λ sign. given (number-of (before 58 bs)) (λ v. given (behind 58 bs) (λ r. given (number-of r) (λ i.
-      Some (record { variable = v; value = i; sign = sign })))))
+    Some (record { variable = v; value = i; sign = sign })))))
 
 -- every field is a literal
 abbrev pub literals-of : List (List ℕ) → Option (List Literal)

@@ -18,12 +18,21 @@ use std::alloc::AllocError;
 use std::alloc::Global;
 
 // The numbers and the letter of a refusal.
-fn refused_text(heap: Global, line: u64, number: u32, letter: char, details: Details) -> Result<String, AllocError>
+fn refused_text(
+    heap: Global,
+    line: u64,
+    number: u32,
+    letter: char,
+    details: Details,
+) -> Result<String, AllocError>
     ensures { λ r. ⌜ made r (λ t. string-bytes t ≡ refused-text line number (encode letter) details) ⌝ }
 {
     let first = details.first;
     let second = details.second;
-    format!(heap, "c refused {line} {number} {letter} {first} {second}\n")
+    format!(
+        heap,
+        "c refused {line} {number} {letter} {first} {second}\n"
+    )
 }
 
 // A refusal of a line.
@@ -83,7 +92,12 @@ fn skip_answers(answers: &[Answer], count: usize) -> &[Answer]
 }
 
 // Prints a line that is refused, and nothing else.
-pub(crate) fn print_outcome(heap: Global, out: &mut Vec<u8>, line: u64, outcome: Result<u32, LineFault>) -> Result<(), AllocError>
+pub(crate) fn print_outcome(
+    heap: Global,
+    out: &mut Vec<u8>,
+    line: u64,
+    outcome: Result<u32, LineFault>,
+) -> Result<(), AllocError>
     ensures { λ r. ⌜ made r (λ _. vec-items (now (out .exit)) ≡ vec-items (now (out .entry)) ++ outcome-line line outcome) ⌝ }
 {
     if let Err(fault) = outcome {
@@ -94,7 +108,12 @@ pub(crate) fn print_outcome(heap: Global, out: &mut Vec<u8>, line: u64, outcome:
 }
 
 // Prints the lines that are refused, from line 2 on.
-pub(crate) fn print_refusals(heap: Global, out: &mut Vec<u8>, lines: &[Line], answers: &[Answer]) -> Result<(), AllocError>
+pub(crate) fn print_refusals(
+    heap: Global,
+    out: &mut Vec<u8>,
+    lines: &[Line],
+    answers: &[Answer],
+) -> Result<(), AllocError>
     ensures { λ r. ⌜ made r (λ _. vec-items (now (out .exit)) ≡ vec-items (now (out .entry)) ++ refused-lines 2 (map said-of (now (lines .entry))) (now (answers .entry))) ⌝ }
 {
     let mut left = answers;
@@ -106,7 +125,13 @@ pub(crate) fn print_refusals(heap: Global, out: &mut Vec<u8>, lines: &[Line], an
 }
 
 // Prints the header and the clauses behind it.
-pub(crate) fn print_clauses(heap: Global, out: &mut Vec<u8>, booleans: u32, clauses: u64, text: &[u8]) -> Result<(), AllocError>
+pub(crate) fn print_clauses(
+    heap: Global,
+    out: &mut Vec<u8>,
+    booleans: u32,
+    clauses: u64,
+    text: &[u8],
+) -> Result<(), AllocError>
     ensures { λ r. ⌜ made r (λ _. vec-items (now (out .exit)) ≡ vec-items (now (out .entry)) ++ (header booleans clauses ++ now (text .entry))) ⌝ }
 {
     let first = header_line(heap, booleans, clauses)?;

@@ -35,6 +35,7 @@ use workbook::Sheet;
 
 // The most bytes of an input, and the bytes of the store.
 pub const INPUT_BYTES: usize = 16_384;
+
 const STORE_BYTES: usize = 32_768;
 
 // The call of a line, where it makes one.
@@ -62,7 +63,12 @@ fn list_calls(heap: Global, lines: &[Line]) -> Result<Vec<Call<'_>>, AllocError>
 }
 
 // Prints what is left of a row that has been made.
-fn print_row<M: Mapping + Drop>(heap: Global, row: Row<M, TextStore>, lines: &[Line], answers: &[Answer]) -> Result<Vec<u8>, AllocError>
+fn print_row<M: Mapping + Drop>(
+    heap: Global,
+    row: Row<M, TextStore>,
+    lines: &[Line],
+    answers: &[Answer],
+) -> Result<Vec<u8>, AllocError>
     ensures { λ r. ⌜ made r (λ v. vec-items v ≡ refused-lines 2 (map said-of (now (lines .entry))) (now (answers .entry)) ++ (header (state-of contents-of (row .workbook) .page .total) (row .clauses) ++ text-clauses (state-of contents-of (row .workbook) .contents .list))) ⌝ }
 {
     let Row { workbook, clauses } = row;
@@ -94,14 +100,25 @@ fn make_places(heap: Global, count: usize) -> Result<Vec<Answer>, AllocError>
 }
 
 // Translates lines under a mapping: their calls are made as one row on a new workbook over a text store.
-fn translate_lines<M: Mapping + Drop>(heap: Global, mapping: M, lines: &[Line]) -> Result<Vec<u8>, AllocError>
+fn translate_lines<M: Mapping + Drop>(
+    heap: Global,
+    mapping: M,
+    lines: &[Line],
+) -> Result<Vec<u8>, AllocError>
     ensures { λ r. ⌜ made r (λ v. vec-items v ≡ translated (M·Mapping .meaning) (map said-of (now (lines .entry)))) ⌝ }
 {
     let calls = list_calls(heap, lines)?;
     let mut answers = make_places(heap, calls.len())?;
     let store = make_store(heap)?;
     let sheet = Sheet::new(heap)?;
-    match make_row(1, mapping, store, sheet, calls.as_slice(), answers.as_mut_slice()) {
+    match make_row(
+        1,
+        mapping,
+        store,
+        sheet,
+        calls.as_slice(),
+        answers.as_mut_slice(),
+    ) {
         Ok(row) => print_row(heap, row, lines, answers.as_slice()),
         Err(_) => unreachable(),
     }

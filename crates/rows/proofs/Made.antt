@@ -28,8 +28,8 @@ module _ {Cell : Type 0} (D : Made Cell) (s₀ : State Cell) (row : List Call) (
 
   module _ (D′ : Made Cell) (s : State Cell) (answers : List Answer) (i : ℕ) (h : Going D′ s answers i) where
     pub going-more : (d : Call) (a : Answer) (s′ : State Cell) (D″ : Made Cell) → i < length row → i < length before →
-      a ≡ answer-of (answer-to D′ s (step-of (getD row i d))) → s′ ≡ after-step D′ s (step-of (getD row i d)) → D″ ≡ D′ →
-      Going D″ s′ (set answers i a) (i + 1)
+        a ≡ answer-of (answer-to D′ s (step-of (getD row i d))) → s′ ≡ after-step D′ s (step-of (getD row i d)) → D″ ≡ D′ →
+        Going D″ s′ (set answers i a) (i + 1)
     going-more d a s′ D″ within below said left same =
         let call = step-of (getD row i d) in
         let rest : drop i steps ≡ call ∷ drop (i + 1) steps = drop-map step-of i row ∙ ap (map step-of) (drop-more row i d within) ∙ ap (λ xs. call ∷ xs) (sym (drop-map step-of (i + 1) row)) in
@@ -52,6 +52,7 @@ module _ {Cell : Type 0} (D : Made Cell) (s₀ : State Cell) (row : List Call) (
     going-all all fits =
         let none : drop i steps ≡ [] = drop-all i steps (omega (arith, length-map row step-of)) in
         let front : take i answers ≡ row-answers D s₀ steps = sym (append-nil (take i answers)) ∙ ap (λ (xs : List Step). take i answers ++ row-answers D s xs) (sym none) ∙ h .front in
-        let long : length (row-answers D s₀ steps) ≡ i = sym (ap length front) ∙ length-take-le i answers (omega (arith, h .long)) in
-        (ap (after-row D s) (sym none) ∙ h .after,
-         sym (take-append-drop i answers) ∙ (λ j. front j ++ (h .back) j) ∙ ap (λ (n : ℕ). row-answers D s₀ steps ++ drop n before) (sym long))
+        let long : length (row-answers D s₀ steps) ≡ i = sym (ap length front) ∙ length-take-le i answers (omega (arith, h .long)) in (
+          ap (after-row D s) (sym none) ∙ h .after,
+          sym (take-append-drop i answers) ∙ (λ j. front j ++ (h .back) j) ∙ ap (λ (n : ℕ). row-answers D s₀ steps ++ drop n before) (sym long),
+        )

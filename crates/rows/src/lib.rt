@@ -58,7 +58,11 @@ fn make_call<M: Mapping, S: Store>(workbook: &mut Workbook<M, S>, call: &Call) -
 }
 
 // Makes every call of a row, in order.
-fn make_calls<M: Mapping, S: Store>(workbook: &mut Workbook<M, S>, row: &[Call], answers: &mut [Answer])
+fn make_calls<M: Mapping, S: Store>(
+    workbook: &mut Workbook<M, S>,
+    row: &[Call],
+    answers: &mut [Answer],
+)
     requires { ⌜ length (now row) ≤ length (now answers) ⌝ }
     ensures answers { λ _. ⌜ now (answers .exit) ≡ over (row-answers (made-of (M·Mapping .meaning) (S·Store .terms) (now (workbook .entry))) (state-of (S·Store .contents) (now (workbook .entry))) (map step-of (now (row .entry)))) (now (answers .entry)) ⌝ }
     ensures after { λ _. ⌜ state-of (S·Store .contents) (now (workbook .exit)) ≡ after-row (made-of (M·Mapping .meaning) (S·Store .terms) (now (workbook .entry))) (state-of (S·Store .contents) (now (workbook .entry))) (map step-of (now (row .entry))) ⌝ }
@@ -77,7 +81,14 @@ pub struct Row<M, S> {
 
 // Makes a new workbook and every call of a row on it, with the answers at the front of `answers`.
 // Where there are fewer places than calls, nothing is done and everything comes back.
-pub fn make_row<M: Mapping, S: Store>(book: u32, mapping: M, store: S, sheet: Sheet, row: &[Call], answers: &mut [Answer]) -> Result<Row<M, S>, Parts<M, S>>
+pub fn make_row<M: Mapping, S: Store>(
+    book: u32,
+    mapping: M,
+    store: S,
+    sheet: Sheet,
+    row: &[Call],
+    answers: &mut [Answer],
+) -> Result<Row<M, S>, Parts<M, S>>
     ensures { λ r. ⌜ Cases r
         (λ x. Done (record { book = book; meaning = M·Mapping .meaning; terms = S·Store .terms store }) (S·Store .contents store) (map step-of (now (row .entry))) (now (answers .entry)) (now (answers .exit)) (made-of (M·Mapping .meaning) (S·Store .terms) (x .workbook)) (state-of (S·Store .contents) (x .workbook)) (x .clauses))
         (λ x. (length (now (answers .entry)) < length (now (row .entry))) × (now (answers .exit) ≡ now (answers .entry)) × (x .mapping ≡ mapping) × (x .store ≡ store) × (x .sheet ≡ sheet)) ⌝ }

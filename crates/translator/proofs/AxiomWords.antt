@@ -103,8 +103,8 @@ module _ {Cell : Type 0} (T : Terms Cell) (K : Contents Cell) (M : Meaning) (law
 
   -- what the mapping has written is asked for and stored
   module _ (before written : List ℤ) (count h : ℕ) (answer : Result (Unit {0}) StoreFault) (u : Unit {0})
-    (wrote : written ≡ over (flat (M .axioms m)) before) (counted : count ≡ words-of (M .axioms m)) (highest : h ≡ start + M .width m)
-    (said : answer ≡ room-answer T K h count) (ok : answer ≡ Ok u) where
+      (wrote : written ≡ over (flat (M .axioms m)) before) (counted : count ≡ words-of (M .axioms m)) (highest : h ≡ start + M .width m)
+      (said : answer ≡ room-answer T K h count) (ok : answer ≡ Ok u) where
     room : (h ≤ T .largest) × (count ≤ words-left T K)
     room = room-ok T K h count u (sym said ∙ ok)
 
@@ -130,15 +130,16 @@ module _ {Cell : Type 0} (T : Terms Cell) (K : Contents Cell) (M : Meaning) (law
     answer-is = said ∙ (λ i. room-answer T K (highest i) (counted i))
 
     pub stored : (r : Result (Unit {0}) StoreFault) (K′ : Contents Cell) (ws : List ℤ) → r ≡ Ok tt →
-      K′ ≡ with-all T K (ended-in [] (map (shifted-word start) (take (count - 0) written))) → ws ≡ map (shifted-word start) (take (count - 0) written) →
-      (r ≡ axioms-answer M T K start m) × (K′ ≡ after-all r T K (placed-axioms M start m)) × (ws ++ drop (count - 0) written ≡ over (flat (axioms-left r M start m)) before)
+        K′ ≡ with-all T K (ended-in [] (map (shifted-word start) (take (count - 0) written))) → ws ≡ map (shifted-word start) (take (count - 0) written) →
+        (r ≡ axioms-answer M T K start m) × (K′ ≡ after-all r T K (placed-axioms M start m)) × (ws ++ drop (count - 0) written ≡ over (flat (axioms-left r M start m)) before)
     stored r K′ ws is after moved =
         let placed : K′ ≡ with-all T K (placed-axioms M start m) = after ∙ ap (λ (xs : List ℤ). with-all T K (ended-in [] (map (shifted-word start) xs))) part-is ∙ ap (with-all T K) (placed-ended within) in
         let front : ws ≡ flat (placed-axioms M start m) = moved ∙ ap (map (shifted-word start)) part-is ∙ moved-flat (M .width m) start (M .axioms m) own in
         let same-long : length (flat (M .axioms m)) ≡ length (flat (placed-axioms M start m)) =
-              length-flat (M .axioms m) ∙ sym (words-moved (M .width m) start (M .axioms m)) ∙ sym (length-flat (placed-axioms M start m)) in
+        length-flat (M .axioms m) ∙ sym (words-moved (M .width m) start (M .axioms m)) ∙ sym (length-flat (placed-axioms M start m)) in
         let rest : drop (count - 0) written ≡ drop (length (flat (placed-axioms M start m))) before =
-              ap (drop (count - 0)) wrote ∙ drop-at (flat (M .axioms m)) _ (count - 0) long ∙ ap (λ (n : ℕ). drop n before) same-long in
-        (is ∙ sym ok ∙ answer-is,
-         placed ∙ sym (ap (λ (x : Result (Unit {0}) StoreFault). after-all x T K (placed-axioms M start m)) is),
-         (λ i. front i ++ rest i) ∙ sym (ap (λ (x : Result (Unit {0}) StoreFault). over (flat (axioms-left x M start m)) before) is))
+        ap (drop (count - 0)) wrote ∙ drop-at (flat (M .axioms m)) _ (count - 0) long ∙ ap (λ (n : ℕ). drop n before) same-long in (
+          is ∙ sym ok ∙ answer-is,
+          placed ∙ sym (ap (λ (x : Result (Unit {0}) StoreFault). after-all x T K (placed-axioms M start m)) is),
+          (λ i. front i ++ rest i) ∙ sym (ap (λ (x : Result (Unit {0}) StoreFault). over (flat (axioms-left x M start m)) before) is),
+        )

@@ -35,7 +35,7 @@ pub counted-none : (ps : List PlacedForm) → Counted ps 0 1 0
 counted-none ps = record { by-splits = omega arith; by-taken = omega arith; product-few = omega arith; literals-few = omega arith }
 
 pub counted-more : (ps : List PlacedForm) (i product literals : ℕ) (d : PlacedForm) (s t : ℕ) → i < length ps → All Few ps → Counted ps i product literals →
-  s ≡ split (form-in (getD ps i d)) → t ≡ taken (form-in (getD ps i d)) → Counted ps (i + 1) (product * s) (literals + t)
+    s ≡ split (form-in (getD ps i d)) → t ≡ taken (form-in (getD ps i d)) → Counted ps (i + 1) (product * s) (literals + t)
 counted-more ps i product literals d s t within few h s-is t-is =
     let small = held-few (getD ps i d) (all-getD Few ps i d within few) in
     let here : splits (drop i ps) ≡ s * splits (drop (i + 1) ps) = at-drop-more splits ps i d within ∙ ap (λ n. n * splits (drop (i + 1) ps)) (sym s-is) in
@@ -53,7 +53,7 @@ pub counted-fits : (ps : List PlacedForm) (i product literals : ℕ) → i ≤ 1
 counted-fits ps i product literals few h = (omega (arith, h .product-few, pow-le-pow-right {n = 8} (lit< tt) few), omega (arith, h .literals-few))
 
 pub counted-all : (ps : List PlacedForm) (i product literals : ℕ) → length ps ≤ i → Counted ps i product literals →
-  product * (literals + 1) ≡ words-of (distributed (map form-in ps))
+    product * (literals + 1) ≡ words-of (distributed (map form-in ps))
 counted-all ps i product literals past h =
     let no-split : splits (drop i ps) ≡ 1 = at-drop-all splits ps i past in
     let no-taken : takes (drop i ps) ≡ 0 = at-drop-all takes ps i past in

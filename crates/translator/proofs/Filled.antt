@@ -64,6 +64,7 @@ module _ {Cell : Type 0} (T : Terms Cell) where
   pub taken-parts : (xs ys : List Clause) (K : Contents Cell) → Takes T K (xs ++ ys) → Takes T K xs × Takes T (with-all T K xs) ys
   taken-parts xs ys K t =
       let both = every-append (every (fits (T .largest))) xs ys (t .fit) in
-      let sum = sum-append words xs ys in
-      (record { fit = both .0; room = omega (arith, t .room) },
-       record { fit = both .1; room = omega (arith, t .room, sum-append words (K .list) xs) })
+      let sum = sum-append words xs ys in (
+        record { fit = both .0; room = omega (arith, t .room) },
+        record { fit = both .1; room = omega (arith, t .room, sum-append words (K .list) xs) },
+      )

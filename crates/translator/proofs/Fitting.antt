@@ -75,7 +75,7 @@ module _ (M : Meaning) (lawful : Lawful M) (L : ℕ) (ps : List Place) where
       let f = M .form (place .size) (l .sign) (l .value) in
       and-from (form-fits L (form-at M ps l)) (every (form-fits L) (map (form-at M ps) ls))
       (ap (every (fits L)) (members-shifted (place .start) f)
-        ∙ clause-fits L (place .start) (M .width (place .size)) (omega arith) (members f) (forms-own M lawful (place .size) (l .sign) (l .value)))
+      ∙ clause-fits L (place .start) (M .width (place .size)) (omega arith) (members f) (forms-own M lawful (place .size) (l .sign) (l .value)))
       (forms-fit ls (omega arith))
 
 module _ (L : ℕ) where
@@ -86,7 +86,7 @@ module _ (L : ℕ) where
       and-from (every (fits L) (c ++ d)) (every (every (fits L)) (fronted ds c)) (every-both (fits L) c d h (both .0)) (fits-fronted c h ds (both .1))
 
   fits-joined : (cs : List (List ℤ)) → every (every (fits L)) cs ≡ true → (ds : List Clause) → every (every (fits L)) ds ≡ true →
-    every (every (fits L)) (joined (fronted ds) cs) ≡ true
+      every (every (fits L)) (joined (fronted ds) cs) ≡ true
   fits-joined [] h ds k = refl
   fits-joined (c ∷ cs) h ds k =
       let both = and-parts (every (fits L) c) (every (every (fits L)) cs) h in
@@ -113,11 +113,13 @@ module _ (L : ℕ) where
   pub all-small : L ≤ 2 ^ 31 - 1 → (ps : List PlacedForm) → All Few ps → every (form-fits L) (map form-in ps) ≡ true → All Small ps
   all-small bound [] few h = tt
   all-small bound (p ∷ ps) few h =
-      let both = and-parts (form-fits L (form-in p)) (every (form-fits L) (map form-in ps)) h in
-      (record {
-        few = few .0;
-        numbers =
-            every-from (fits L) (λ l. ltb (number l) (2 ^ 31))
-            (λ l k. lt-ltb _ _ (omega (arith, leb-true (number l) L (and-parts (leb 1 (number l)) (leb (number l) L) k .1))))
-            (own-literals p) (ap (every (fits L)) (sym (members-held p)) ∙ both .0);
-      }, all-small bound ps (few .1) (both .1))
+      let both = and-parts (form-fits L (form-in p)) (every (form-fits L) (map form-in ps)) h in (
+        record {
+          few = few .0;
+          numbers =
+              every-from (fits L) (λ l. ltb (number l) (2 ^ 31))
+              (λ l k. lt-ltb _ _ (omega (arith, leb-true (number l) L (and-parts (leb 1 (number l)) (leb (number l) L) k .1))))
+              (own-literals p) (ap (every (fits L)) (sym (members-held p)) ∙ both .0);
+        },
+        all-small bound ps (few .1) (both .1),
+      )

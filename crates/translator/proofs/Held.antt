@@ -24,10 +24,10 @@ copied (any-of xs) ls = ap any-of (take-at xs _ _ refl)
 
 -- the form of a literal, after the mapping has written it
 pub loaded : (M : Meaning) (ps : List Place) (l : Literal) (place : Place) (shape : Shape) (before after : List ℤ) →
-  place ≡ place-at ps (l .variable) →
-  shape ≡ shape-of (M .form (place .size) (l .sign) (l .value)) →
-  after ≡ over (members (M .form (place .size) (l .sign) (l .value))) before →
-  form-in (record { kind = shape .kind; count = shape .count; literals = after; start = place .start }) ≡ form-at M ps l
+    place ≡ place-at ps (l .variable) →
+    shape ≡ shape-of (M .form (place .size) (l .sign) (l .value)) →
+    after ≡ over (members (M .form (place .size) (l .sign) (l .value))) before →
+    form-in (record { kind = shape .kind; count = shape .count; literals = after; start = place .start }) ≡ form-at M ps l
 loaded M ps l place shape before after found said wrote =
     let F = M .form (place .size) (l .sign) (l .value) in
     ap (λ (s : Shape). shifted-form (place .start) (of-kind (s .kind) (take (s .count) after))) said

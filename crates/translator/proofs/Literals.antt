@@ -35,7 +35,7 @@ own-small p i small within =
 
 -- one literal more, behind those that are copied
 pub copied-more : (front : List ℤ) (at i : ℕ) (before ls : List ℤ) (d : ℤ) → take (at + i) front ≡ before ++ take i ls → at + i < length front → i < length ls →
-  take (at + (i + 1)) (set front (at + i) (getD ls i d)) ≡ before ++ take (i + 1) ls
+    take (at + (i + 1)) (set front (at + i) (getD ls i d)) ≡ before ++ take (i + 1) ls
 copied-more front at i before ls d copy within below =
     ap (λ n. take n (set front (at + i) (getD ls i d))) (sym (add-assoc at i 1))
     ∙ take-more-set front (at + i) (getD ls i d) within

@@ -14,7 +14,7 @@ use Rattle.translator.specs.Places.{place-at, reach}
 
 -- one element more on both sides
 pub mapped-more : {X Y Z : Type 0} (f : X → Z) (h : Y → Z) (xs : List X) (ys : List Y) (i : ℕ) (x : X) (d : Y) → i < length xs → i < length ys →
-  map f (take i xs) ≡ map h (take i ys) → f x ≡ h (getD ys i d) → map f (take (i + 1) (set xs i x)) ≡ map h (take (i + 1) ys)
+    map f (take i xs) ≡ map h (take i ys) → f x ≡ h (getD ys i d) → map f (take (i + 1) (set xs i x)) ≡ map h (take (i + 1) ys)
 mapped-more f h xs ys i x d in-xs in-ys same here =
     ap (map f) (take-more-set xs i x in-xs) ∙ map-push f (take i xs) x ∙ (λ j. same j ++ here j ∷ [])
     ∙ sym (map-push h (take i ys) (getD ys i d)) ∙ ap (map h) (sym (take-more ys i d in-ys))
@@ -25,13 +25,13 @@ all-more-set P xs i x within all here = subst (All P) (sym (take-more-set xs i x
 module _ (M : Meaning) (ps : List Place) (ls : List Literal) where
   -- the highest so far, and what is left, give the whole
   pub reach-more : (i highest next : ℕ) (d : Literal) (place : Place) (width : ℕ) → i < length ls →
-    place ≡ place-at ps (getD ls i d .variable) → width ≡ M .width (place .size) → next ≡ max highest (place .start + width) →
-    max highest (reach M ps (drop i ls)) ≡ reach M ps ls → max next (reach M ps (drop (i + 1) ls)) ≡ reach M ps ls
+      place ≡ place-at ps (getD ls i d .variable) → width ≡ M .width (place .size) → next ≡ max highest (place .start + width) →
+      max highest (reach M ps (drop i ls)) ≡ reach M ps ls → max next (reach M ps (drop (i + 1) ls)) ≡ reach M ps ls
   reach-more i highest next d place width within found wide is inv =
       let here : reach M ps (drop i ls) ≡ max (place-at ps (getD ls i d .variable) .start + M .width (place-at ps (getD ls i d .variable) .size)) (reach M ps (drop (i + 1) ls)) =
-            at-drop-more (reach M ps) ls i d within in
+      at-drop-more (reach M ps) ls i d within in
       let last : place-at ps (getD ls i d .variable) .start + M .width (place-at ps (getD ls i d .variable) .size) ≡ place .start + width =
-            ap (λ (p : Place). p .start + M .width (p .size)) (sym found) ∙ ap (λ n. place .start + n) (sym wide) in
+      ap (λ (p : Place). p .start + M .width (p .size)) (sym found) ∙ ap (λ n. place .start + n) (sym wide) in
       omega (arith, here, last, is, inv)
 
   pub reach-all : (i highest : ℕ) → length ls ≤ i → max highest (reach M ps (drop i ls)) ≡ reach M ps ls → highest ≡ reach M ps ls

@@ -34,7 +34,7 @@ abbrev pub left : List ℤ → List Clause → List ℤ → ℕ → List Clause
 left front ds ls i = map (λ d. front ++ d) (joined (fronted ds) (map (λ l. l ∷ []) (drop i ls)))
 
 pub left-more : (front : List ℤ) (ds : List Clause) (ls : List ℤ) (i : ℕ) (l : ℤ) → i < length ls → getD ls i l ≡ l →
-  left front ds ls i ≡ map (λ d. (front ++ l ∷ []) ++ d) ds ++ left front ds ls (i + 1)
+    left front ds ls i ≡ map (λ d. (front ++ l ∷ []) ++ d) ds ++ left front ds ls (i + 1)
 left-more front ds ls i l within read =
     ap (λ (xs : List ℤ). map (λ d. front ++ d) (joined (fronted ds) (map (λ x. x ∷ []) xs))) (drop-more ls i l within ∙ ap (λ x. x ∷ drop (i + 1) ls) read)
     ∙ map-append (λ d. front ++ d) (fronted ds (l ∷ [])) (joined (fronted ds) (map (λ x. x ∷ []) (drop (i + 1) ls)))
@@ -44,12 +44,12 @@ pub left-none : (front : List ℤ) (ds : List Clause) (ls : List ℤ) (i : ℕ) 
 left-none front ds ls i past = ap (λ (xs : List ℤ). map (λ d. front ++ d) (joined (fronted ds) (map (λ x. x ∷ []) xs))) (drop-all i ls past)
 
 pub product-all : (front : List ℤ) (p : PlacedForm) (ps : List PlacedForm) → p .kind ≡ AllOf →
-  product-behind front (p ∷ ps) ≡ left front (distributed (map form-in ps)) (own-literals p) 0
+    product-behind front (p ∷ ps) ≡ left front (distributed (map form-in ps)) (own-literals p) 0
 product-all front p ps is = ap (λ (f : Form). map (λ d. front ++ d) (distributed (f ∷ map form-in ps))) (form-all p is)
 
 -- the one choice of an any-of form is all of its literals
 pub product-any : (front : List ℤ) (p : PlacedForm) (ps : List PlacedForm) → p .kind ≡ AnyOf →
-  product-behind front (p ∷ ps) ≡ product-behind (front ++ own-literals p) ps
+    product-behind front (p ∷ ps) ≡ product-behind (front ++ own-literals p) ps
 product-any front p ps is =
     ap (λ (f : Form). map (λ d. front ++ d) (distributed (f ∷ map form-in ps))) (form-any p is)
     ∙ ap (map (λ d. front ++ d)) (append-nil (fronted (distributed (map form-in ps)) (own-literals p)))

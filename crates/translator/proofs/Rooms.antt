@@ -39,12 +39,12 @@ never-ok e u h = absurd (subst Failed h tt)
 module _ {Cell : Type 0} (T : Terms Cell) (K : Contents Cell) where
   pub room-ok : (h n : ℕ) (u : Unit {0}) → room-answer T K h n ≡ Ok u → (h ≤ T .largest) × (n ≤ words-left T K)
   room-ok h n u ok = ⊎-elim
-    (λ high. ⊎-elim
+      (λ high. ⊎-elim
       (λ enough. (leb-true _ _ high, leb-true _ _ enough))
       (λ short. never-ok _ u (sym (cond-true (leb h (T .largest)) _ _ high ∙ cond-false (leb n (words-left T K)) _ _ short) ∙ ok))
       (cases-bool (leb n (words-left T K))))
-    (λ spent. never-ok _ u (sym (cond-false (leb h (T .largest)) _ _ spent) ∙ ok))
-    (cases-bool (leb h (T .largest)))
+      (λ spent. never-ok _ u (sym (cond-false (leb h (T .largest)) _ _ spent) ∙ ok))
+      (cases-bool (leb h (T .largest)))
 
   -- the forms of a clause are loaded and counted, and the store is asked for room
   pub record Asked (M : Meaning) (ps : List Place) (ls : List Literal) (product : List PlacedForm) (h n : ℕ) (answer : Result (Unit {0}) StoreFault) : Type 0 where
@@ -80,12 +80,13 @@ module _ {Cell : Type 0} (T : Terms Cell) (K : Contents Cell) where
 
     -- refused, and nothing is stored
     pub refused : (r : Result (Unit {0}) StoreFault) (e : StoreFault) → r ≡ Err e → answer ≡ Err e →
-      (r ≡ clause-answer M T K ps ls) × (K ≡ after-all r T K (placed-clause M ps ls))
+        (r ≡ clause-answer M T K ps ls) × (K ≡ after-all r T K (placed-clause M ps ls))
     refused r e is was = (is ∙ sym was ∙ answer-is, sym (ap (λ (x : Result (Unit {0}) StoreFault). after-all x T K (placed-clause M ps ls)) is))
 
     -- or stored, all of it
     pub stored : (r : Result (Unit {0}) StoreFault) (u : Unit {0}) (K′ : Contents Cell) (front : List ℤ) → answer ≡ Ok u → r ≡ Ok tt → K′ ≡ with-all T K (product-behind (take 0 front) product) →
-      (r ≡ clause-answer M T K ps ls) × (K′ ≡ after-all r T K (placed-clause M ps ls))
-    stored r u K′ front was is after =
-        (is ∙ sym was ∙ answer-is,
-         after ∙ ap (with-all T K) (behind-none front) ∙ sym (ap (λ (x : Result (Unit {0}) StoreFault). after-all x T K (placed-clause M ps ls)) is))
+        (r ≡ clause-answer M T K ps ls) × (K′ ≡ after-all r T K (placed-clause M ps ls))
+    stored r u K′ front was is after = (
+      is ∙ sym was ∙ answer-is,
+      after ∙ ap (with-all T K) (behind-none front) ∙ sym (ap (λ (x : Result (Unit {0}) StoreFault). after-all x T K (placed-clause M ps ls)) is),
+    )

@@ -24,11 +24,11 @@ use Rattle.translator.proofs.Products.{left, left-more, left-none, product-all
 module _ {Cell : Type 0} (T : Terms Cell) where
   -- no form is left: the literals in front are the clause
   pub leaf : (K K′ : Contents Cell) (front : List ℤ) (used : ℕ) (ps : List PlacedForm) (r : Result (Unit {0}) StoreFault) (c : Clause) →
-    ps ≡ [] → Ready T K front used ps → c ≡ take used front → r ≡ put-answer T K c → K′ ≡ after-put r T K c →
-    (r ≡ Ok tt) × (K′ ≡ with-all T K (product-behind (take used front) ps))
+      ps ≡ [] → Ready T K front used ps → c ≡ take used front → r ≡ put-answer T K c → K′ ≡ after-put r T K c →
+      (r ≡ Ok tt) × (K′ ≡ with-all T K (product-behind (take used front) ps))
   leaf K K′ front used ps r c none ready is answer after =
       let clauses : product-behind (take used front) ps ≡ c ∷ [] =
-            ap (product-behind (take used front)) none ∙ product-none (take used front) ∙ ap (λ x. x ∷ []) (sym is) in
+      ap (product-behind (take used front)) none ∙ product-none (take used front) ∙ ap (λ x. x ∷ []) (sym is) in
       let ok : r ≡ Ok tt = answer ∙ taken-first T K c [] (subst (Takes T K) clauses (ready .takes)) in
       (ok, after ∙ ap (λ (x : Result (Unit {0}) StoreFault). after-put x T K c) ok ∙ sym (with-none T (appended T K c)) ∙ with-one T K c [] ∙ ap (with-all T K) (sym clauses))
 
@@ -37,7 +37,7 @@ module _ {Cell : Type 0} (T : Terms Cell) where
     ds = distributed (map form-in rest)
 
     pub going-none : (K : Contents Cell) (front : List ℤ) (used : ℕ) (ps : List PlacedForm) → ps ≡ p ∷ rest → p .kind ≡ AllOf → length front ≡ 128 →
-      Ready T K front used ps → Going T T K K front front used p rest 0
+        Ready T K front used ps → Going T T K K front front used p rest 0
     going-none K front used ps is kind long ready =
         record {
           terms = refl;
@@ -62,7 +62,7 @@ module _ {Cell : Type 0} (T : Terms Cell) where
 
       -- the clauses left are those of choice i and then those of the later ones
       parts : Going T T′ K₀ K front₀ front used p rest i → i < p .count →
-        left (take used front₀) ds (own-literals p) i ≡ product-behind (take (used + 1) next) rest ++ left (take used front₀) ds (own-literals p) (i + 1)
+          left (take used front₀) ds (own-literals p) i ≡ product-behind (take (used + 1) next) rest ++ left (take used front₀) ds (own-literals p) (i + 1)
       parts h within =
           let below : i < length (own-literals p) = omega (arith, held-count p (all .small .0 .few)) in
           left-more (take used front₀) ds (own-literals p) i (getD (own-literals p) i (pos 0)) below (getD-default (own-literals p) i _ _ below)
@@ -72,19 +72,19 @@ module _ {Cell : Type 0} (T : Terms Cell) where
       ready-one h within front′ wrote =
           subst (λ (xs : List ℤ). Ready T′ K xs (used + 1) rest) (sym wrote)
           (subst (λ (U : Terms Cell). Ready U K next (used + 1) rest) (sym (h .terms))
-            (record {
-              small = all .small .1;
-              space = omega (arith, all .space);
-              takes = taken-parts T (product-behind (take (used + 1) next) rest) (left (take used front₀) ds (own-literals p) (i + 1)) K (subst (Takes T K) (parts h within) (h .takes)) .0;
-            }))
+          (record {
+            small = all .small .1;
+            space = omega (arith, all .space);
+            takes = taken-parts T (product-behind (take (used + 1) next) rest) (left (take used front₀) ds (own-literals p) (i + 1)) K (subst (Takes T K) (parts h within) (h .takes)) .0;
+          }))
 
       pub going-more : Going T T′ K₀ K front₀ front used p rest i → i < p .count → (T″ : Terms Cell) (K″ : Contents Cell) (front′ front″ : List ℤ) → front′ ≡ next →
-        T″ ≡ T′ → K″ ≡ with-all T′ K (product-behind (take (used + 1) front′) rest) → take (used + 1) front″ ≡ take (used + 1) front′ → length front″ ≡ 128 →
-        Going T T″ K₀ K″ front₀ front″ used p rest (i + 1)
+          T″ ≡ T′ → K″ ≡ with-all T′ K (product-behind (take (used + 1) front′) rest) → take (used + 1) front″ ≡ take (used + 1) front′ → length front″ ≡ 128 →
+          Going T T″ K₀ K″ front₀ front″ used p rest (i + 1)
       going-more h within T″ K″ front′ front″ wrote same after kept long =
           let stored : K″ ≡ with-all T K (product-behind (take (used + 1) next) rest) =
-                after ∙ ap (λ (U : Terms Cell). with-all U K (product-behind (take (used + 1) front′) rest)) (h .terms)
-                ∙ ap (λ (xs : List ℤ). with-all T K (product-behind (take (used + 1) xs) rest)) wrote in
+          after ∙ ap (λ (U : Terms Cell). with-all U K (product-behind (take (used + 1) front′) rest)) (h .terms)
+          ∙ ap (λ (xs : List ℤ). with-all T K (product-behind (take (used + 1) xs) rest)) wrote in
           let later = left (take used front₀) ds (own-literals p) (i + 1) in
           record {
             terms = same ∙ h .terms;
@@ -109,7 +109,7 @@ module _ {Cell : Type 0} (T : Terms Cell) where
           ∙ ap (with-all T K₀) (sym (ap (product-behind (take used front₀)) is ∙ product-all (take used front₀) p rest kind))
 
     module _ (K : Contents Cell) (front : List ℤ) (used : ℕ) (ps : List PlacedForm) (is : ps ≡ p ∷ rest) (kind : p .kind ≡ AnyOf) (ready : Ready T K front used ps) (front′ : List ℤ)
-      (wrote : take (used + p .count) front′ ≡ take used front ++ own-literals p) where
+        (wrote : take (used + p .count) front′ ≡ take used front ++ own-literals p) where
       whole : product-behind (take used front) ps ≡ product-behind (take (used + p .count) front′) rest
       whole = ap (product-behind (take used front)) is ∙ product-any (take used front) p rest kind ∙ ap (λ (xs : List ℤ). product-behind xs rest) (sym wrote)
 

@@ -116,7 +116,7 @@ module _ {Cell : Type 0} (T : Terms Cell) (K₀ : Contents Cell) (start : ℕ) (
           answer ∙ (λ j. put-answer (h .terms j) K (is j)) ∙ taken-first T K (begun begin i) (ended-in [] (drop (i + 1) moved)) end-takes
 
       pub going-end : (r : Result (Unit {0}) StoreFault) (c : Clause) (T″ : Terms Cell) (K″ : Contents Cell) (ws″ : List ℤ) → c ≡ begun begin i → r ≡ put-answer T′ K c →
-        K″ ≡ after-put r T′ K c → T″ ≡ T′ → ws″ ≡ ws → Going T″ K″ ws″ (i + 1) (i + 1)
+          K″ ≡ after-put r T′ K c → T″ ≡ T′ → ws″ ≡ ws → Going T″ K″ ws″ (i + 1) (i + 1)
       going-end r c T″ K″ ws″ is answer after same kept =
           let stored : K″ ≡ appended T K (begun begin i) = after ∙ (λ j. after-put (put-ok r c is answer j) (h .terms j) K (is j)) in
           let left : ended-in (begun (i + 1) (i + 1)) (drop (i + 1) moved) ≡ ended-in [] (drop (i + 1) moved) = ap (λ (c : Clause). ended-in c (drop (i + 1) moved)) none-begun in
@@ -136,10 +136,10 @@ module _ {Cell : Type 0} (T : Terms Cell) (K₀ : Contents Cell) (start : ℕ) (
     pub going-on : (w ≡ pos 0 → ⊥) → Going T′ K (set ws i (shifted-word start w)) begin (i + 1)
     going-on literal =
         let grows : begun begin i ++ shifted-word start w ∷ [] ≡ begun begin (i + 1) =
-              sym (drop-append-le begin (take i moved) (shifted-word start w ∷ []) (omega (arith, h .order, length-take i moved, below-moved))) ∙ ap (drop begin) (sym more) in
+        sym (drop-append-le begin (take i moved) (shifted-word start w ∷ []) (omega (arith, h .order, length-take i moved, below-moved))) ∙ ap (drop begin) (sym more) in
         let on : ended-in (begun begin i) (drop i moved) ≡ ended-in (begun begin (i + 1)) (drop (i + 1) moved) =
-              ap (ended-in (begun begin i)) rest ∙ ended-in-more (begun begin i) (shifted-word start w) (drop (i + 1) moved) (moved-no-end start w literal)
-              ∙ ap (λ (c : Clause). ended-in c (drop (i + 1) moved)) grows in
+        ap (ended-in (begun begin i)) rest ∙ ended-in-more (begun begin i) (shifted-word start w) (drop (i + 1) moved) (moved-no-end start w literal)
+        ∙ ap (λ (c : Clause). ended-in c (drop (i + 1) moved)) grows in
         record {
           terms = h .terms;
           whole = ap (with-all T K) (sym on) ∙ h .whole;
@@ -153,6 +153,7 @@ module _ {Cell : Type 0} (T : Terms Cell) (K₀ : Contents Cell) (start : ℕ) (
   pub going-all : (T′ : Terms Cell) (K : Contents Cell) (ws : List ℤ) (begin i : ℕ) → Going T′ K ws begin i → length ws ≤ i → (K ≡ with-all T K₀ (ended-in [] moved)) × (ws ≡ moved)
   going-all T′ K ws begin i h past =
       let long-moved = length-map ws₀ (shifted-word start) in
-      let none : ended-in (begun begin i) (drop i moved) ≡ [] = ap (ended-in (begun begin i)) (drop-all i moved (omega (arith, h .long))) in
-      (sym (with-none T K) ∙ ap (with-all T K) (sym none) ∙ h .whole,
-       sym (take-all i ws past) ∙ h .front ∙ take-all i moved (omega (arith, h .long)))
+      let none : ended-in (begun begin i) (drop i moved) ≡ [] = ap (ended-in (begun begin i)) (drop-all i moved (omega (arith, h .long))) in (
+        sym (with-none T K) ∙ ap (with-all T K) (sym none) ∙ h .whole,
+        sym (take-all i ws past) ∙ h .front ∙ take-all i moved (omega (arith, h .long)),
+      )

@@ -36,7 +36,13 @@ fn put_words<S: Store>(store: &mut S, words: &mut [i32], start: u32) -> Result<(
 
 // Stores the axioms of a variable of this size behind the Booleans before its own: all of them, or none where the store has no room.
 // The mapping hands them out in `memory`, where they are left.
-pub fn file_axioms<M: Mapping, S: Store>(mapping: &M, store: &mut S, memory: &mut [i32; AXIOM_WORDS], start: u32, size: u32) -> Result<(), StoreFault>
+pub fn file_axioms<M: Mapping, S: Store>(
+    mapping: &M,
+    store: &mut S,
+    memory: &mut [i32; AXIOM_WORDS],
+    start: u32,
+    size: u32,
+) -> Result<(), StoreFault>
     ensures answer { λ r. ⌜ r ≡ axioms-answer (M·Mapping .meaning) (S·Store .terms (now (store .entry))) (S·Store .contents (now (store .entry))) start size ⌝ }
     ensures after { λ r. ⌜ S·Store .contents (now (store .exit)) ≡ after-all r (S·Store .terms (now (store .entry))) (S·Store .contents (now (store .entry))) (placed-axioms (M·Mapping .meaning) start size) ⌝ }
     ensures same { λ _. ⌜ S·Store .terms (now (store .exit)) ≡ S·Store .terms (now (store .entry)) ⌝ }

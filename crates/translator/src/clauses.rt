@@ -27,7 +27,12 @@ const NO_FORM: PlacedForm = PlacedForm {
 };
 
 // Stores every choice of the forms of at most 16 literals: all of them, or none where the store has no room.
-fn file_forms<M: Mapping, S: Store>(mapping: &M, store: &mut S, places: &[Place], literals: &[Literal]) -> Result<(), StoreFault>
+fn file_forms<M: Mapping, S: Store>(
+    mapping: &M,
+    store: &mut S,
+    places: &[Place],
+    literals: &[Literal],
+) -> Result<(), StoreFault>
     requires { ⌜ length (now literals) ≤ 16 ⌝ }
     ensures answer { λ r. ⌜ r ≡ clause-answer (M·Mapping .meaning) (S·Store .terms (now (store .entry))) (S·Store .contents (now (store .entry))) (now (places .entry)) (now (literals .entry)) ⌝ }
     ensures after { λ r. ⌜ S·Store .contents (now (store .exit)) ≡ after-all r (S·Store .terms (now (store .entry))) (S·Store .contents (now (store .entry))) (placed-clause (M·Mapping .meaning) (now (places .entry)) (now (literals .entry))) ⌝ }
@@ -36,13 +41,22 @@ fn file_forms<M: Mapping, S: Store>(mapping: &M, store: &mut S, places: &[Place]
     let mut forms = [NO_FORM; CLAUSE_FORMS];
     load_forms(mapping, places, literals, &mut forms);
     let product = &forms[0..literals.len()];
-    check_room(store, find_reach(mapping, places, literals), count_words(product))?;
+    check_room(
+        store,
+        find_reach(mapping, places, literals),
+        count_words(product),
+    )?;
     let mut front = [0i32; CLAUSE_LITERALS];
     put_product(store, product, &mut front, 0)
 }
 
 // Stores what a clause is translated to, which is taken to have no more than its first 16 literals: all of it, or nothing.
-pub fn file_clause<M: Mapping, S: Store>(mapping: &M, store: &mut S, places: &[Place], literals: &[Literal]) -> Result<(), StoreFault>
+pub fn file_clause<M: Mapping, S: Store>(
+    mapping: &M,
+    store: &mut S,
+    places: &[Place],
+    literals: &[Literal],
+) -> Result<(), StoreFault>
     ensures answer { λ r. ⌜ r ≡ clause-answer (M·Mapping .meaning) (S·Store .terms (now (store .entry))) (S·Store .contents (now (store .entry))) (now (places .entry)) (take 16 (now (literals .entry))) ⌝ }
     ensures after { λ r. ⌜ S·Store .contents (now (store .exit)) ≡ after-all r (S·Store .terms (now (store .entry))) (S·Store .contents (now (store .entry))) (placed-clause (M·Mapping .meaning) (now (places .entry)) (take 16 (now (literals .entry)))) ⌝ }
     ensures same { λ _. ⌜ S·Store .terms (now (store .exit)) ≡ S·Store .terms (now (store .entry)) ⌝ }

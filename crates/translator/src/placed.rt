@@ -9,10 +9,10 @@ ghost use Rattle.formula.specs.Boolean.{number, words-of};
 ghost use Rattle.mapping.specs.Forms.{shifted, distributed};
 ghost use Rattle.translator.specs.Places.{place-at, form-at, reach};
 ghost use Rattle.translator.specs.Placed.{form-in, Few};
+use crate::places::Place;
 use formula::Literal;
 use mapping::Kind;
 use mapping::Mapping;
-use crate::places::Place;
 
 // A clause has at most 16 literals, each with its form.
 pub const CLAUSE_FORMS: usize = 16;
@@ -45,7 +45,11 @@ pub(crate) fn find_place(places: &[Place], variable: u32) -> Place
     ensures { λ r. ⌜ r ≡ place-at (now (places .entry)) variable ⌝ }
 {
     let index = (variable as usize).saturating_sub(1);
-    if index < places.len() { places[index] } else { NOWHERE }
+    if index < places.len() {
+        places[index]
+    } else {
+        NOWHERE
+    }
 }
 
 // The form of a literal, as the mapping has it.
@@ -65,7 +69,12 @@ pub(crate) fn load_form<M: Mapping>(mapping: &M, places: &[Place], literal: &Lit
 }
 
 // The forms of the literals of a clause, in order.
-pub(crate) fn load_forms<M: Mapping>(mapping: &M, places: &[Place], literals: &[Literal], forms: &mut [PlacedForm; CLAUSE_FORMS])
+pub(crate) fn load_forms<M: Mapping>(
+    mapping: &M,
+    places: &[Place],
+    literals: &[Literal],
+    forms: &mut [PlacedForm; CLAUSE_FORMS],
+)
     requires { ⌜ length (now literals) ≤ 16 ⌝ }
     ensures forms { λ _. ⌜ map form-in (take (length (now (literals .entry))) (now (forms .exit))) ≡ map (form-at (M·Mapping .meaning) (now (places .entry))) (now (literals .entry)) ⌝ }
     ensures few { λ _. ⌜ All Few (take (length (now (literals .entry))) (now (forms .exit))) ⌝ }

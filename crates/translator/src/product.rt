@@ -75,7 +75,12 @@ fn put_literals(form: &PlacedForm, front: &mut [i32; CLAUSE_LITERALS], at: usize
 
 // Puts every clause of the product of these forms, each behind the first `used` literals of `front`.
 // The store has been asked for room, so no put refuses.
-pub(crate) fn put_product<S: Store>(store: &mut S, forms: &[PlacedForm], front: &mut [i32; CLAUSE_LITERALS], used: usize) -> Result<(), StoreFault>
+pub(crate) fn put_product<S: Store>(
+    store: &mut S,
+    forms: &[PlacedForm],
+    front: &mut [i32; CLAUSE_LITERALS],
+    used: usize,
+) -> Result<(), StoreFault>
     requires { ⌜ Ready (S·Store .terms (now store)) (S·Store .contents (now store)) (now front) used (now forms) ⌝ }
     ensures answer { λ r. ⌜ r ≡ Ok tt ⌝ }
     ensures after { λ _. ⌜ S·Store .contents (now (store .exit)) ≡ with-all (S·Store .terms (now (store .entry))) (S·Store .contents (now (store .entry))) (product-behind (take used (now (front .entry))) (now (forms .entry))) ⌝ }

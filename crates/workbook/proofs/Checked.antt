@@ -14,7 +14,7 @@ use Rattle.workbook.specs.Faults.{and-then}
 
 module _ (ps : List Place) (ls : List Literal) (i : ℕ) (inv : literals-answer ps (i + 1) (drop i ls) ≡ literals-answer ps 1 ls) where
   module _ (d : Literal) (qs : List Place) (r : Result (Unit {0}) WorkbookFault) (within : i < length ls)
-    (same : qs ≡ ps) (answer : r ≡ literal-answer qs (i + 1) (getD ls i d)) where
+      (same : qs ≡ ps) (answer : r ≡ literal-answer qs (i + 1) (getD ls i d)) where
     here : and-then r (literals-answer ps (i + 1 + 1) (drop (i + 1) ls)) ≡ literals-answer ps 1 ls
     here =
         ap (λ (x : Result (Unit {0}) WorkbookFault). and-then x (literals-answer ps (i + 1 + 1) (drop (i + 1) ls))) (answer ∙ ap (λ (xs : List Place). literal-answer xs (i + 1) (getD ls i d)) same)

@@ -33,7 +33,7 @@ entries-variable (Variable k ∷ ss) ls m = ap (λ (es : List Entry). variable k
 entries-variable (Clause n ∷ ss) ls m = ap (λ (es : List Entry). clause (take n ls) ∷ es) (entries-variable ss (drop n ls) m)
 
 pub entries-clause : (ss : List Slot) (ls more : List Literal) → slot-literals ss ≡ length ls →
-  entries-in (ss ++ Clause (length more) ∷ []) (ls ++ more) ≡ entries-in ss ls ++ clause more ∷ []
+    entries-in (ss ++ Clause (length more) ∷ []) (ls ++ more) ≡ entries-in ss ls ++ clause more ∷ []
 entries-clause [] ls more h =
     ap (λ (xs : List Literal). clause (take (length more) (xs ++ more)) ∷ []) (nil-from-length ls (sym h))
     ∙ ap (λ (xs : List Literal). clause xs ∷ []) (take-all (length more) more (omega arith))

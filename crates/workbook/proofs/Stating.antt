@@ -48,15 +48,15 @@ space-passed p n u h =
     (ltb-true _ _ (both .0), leb-true _ _ (both .1))
 
 pub clause-passed : (p : Page) (ls : List Literal) (u : Unit {0}) → clause-answer p ls ≡ Ok u →
-  (length ls ≤ 16) × (length (p .entries) < 1024) × (literals-of (p .entries) + length ls ≤ 4096)
+    (length ls ≤ 16) × (length (p .entries) < 1024) × (literals-of (p .entries) + length ls ≤ 4096)
 clause-passed p ls u h =
     let long = both-passed (check (leb (length ls) 16) (Long (detail (length ls)))) (and-then (literals-answer (p .places) 1 ls) (space-answer p (length ls))) u h in
     let space = space-passed p (length ls) u (both-passed (literals-answer (p .places) 1 ls) (space-answer p (length ls)) u (long .1) .1) in
     (leb-true _ _ (passed _ _ tt (long .0)), space .0, space .1)
 
 module _ {Cell : Type 0} (D : Made Cell) (s : State Cell) (ls : List Literal) (qs : List Place) (checked : Result (Unit {0}) WorkbookFault) (filed : Result (Unit {0}) StoreFault)
-  (u : Unit {0}) (said : checked ≡ clause-answer (s .page) ls) (ok : checked ≡ Ok u) (same : qs ≡ s .page .places)
-  (answered : filed ≡ filing.clause-answer (D .meaning) (D .terms) (s .contents) qs (take 16 ls)) where
+    (u : Unit {0}) (said : checked ≡ clause-answer (s .page) ls) (ok : checked ≡ Ok u) (same : qs ≡ s .page .places)
+    (answered : filed ≡ filing.clause-answer (D .meaning) (D .terms) (s .contents) qs (take 16 ls)) where
   abbrev clause-ok : clause-answer (s .page) ls ≡ Ok u
   clause-ok = sym said ∙ ok
 
@@ -70,25 +70,27 @@ module _ {Cell : Type 0} (D : Made Cell) (s : State Cell) (ls : List Literal) (q
   answer-is = λ i. numbered (and-then (clause-ok i) (from-store (filed-is i))) (length (clauses (s .page .entries)) + 1)
 
   contents-are : (K : Contents Cell) → K ≡ after-all filed (D .terms) (s .contents) (placed-clause (D .meaning) qs (take 16 ls)) →
-    K ≡ after-all filed (D .terms) (s .contents) (placed-clause (D .meaning) (s .page .places) ls)
+      K ≡ after-all filed (D .terms) (s .contents) (placed-clause (D .meaning) (s .page .places) ls)
   contents-are K after = after ∙ (λ i. after-all filed (D .terms) (s .contents) (placed-clause (D .meaning) (same i) (whole i)))
 
   -- the store refuses: the fault goes up, and nothing has changed
   pub refused : (r : Result ℕ WorkbookFault) (e : StoreFault) (K : Contents Cell) → filed ≡ Err e → r ≡ Err (Store e) →
-    K ≡ after-all filed (D .terms) (s .contents) (placed-clause (D .meaning) qs (take 16 ls)) →
-    (r ≡ state-answer D s ls) × (record { page = s .page; contents = K } ≡ on-ok r s (stated D s ls))
+      K ≡ after-all filed (D .terms) (s .contents) (placed-clause (D .meaning) qs (take 16 ls)) →
+      (r ≡ state-answer D s ls) × (record { page = s .page; contents = K } ≡ on-ok r s (stated D s ls))
   refused r e K err is after =
-      let kept : K ≡ s .contents = contents-are K after ∙ ap (λ (x : Result (Unit {0}) StoreFault). after-all x (D .terms) (s .contents) (placed-clause (D .meaning) (s .page .places) ls)) err in
-      (is ∙ sym (answer-is ∙ ap (λ (x : Result (Unit {0}) StoreFault). numbered (from-store x) (length (clauses (s .page .entries)) + 1)) err),
-       (λ i. record { page = s .page; contents = kept i }) ∙ sym (ap (λ (x : Result ℕ WorkbookFault). on-ok x s (stated D s ls)) is))
+      let kept : K ≡ s .contents = contents-are K after ∙ ap (λ (x : Result (Unit {0}) StoreFault). after-all x (D .terms) (s .contents) (placed-clause (D .meaning) (s .page .places) ls)) err in (
+        is ∙ sym (answer-is ∙ ap (λ (x : Result (Unit {0}) StoreFault). numbered (from-store x) (length (clauses (s .page .entries)) + 1)) err),
+        (λ i. record { page = s .page; contents = kept i }) ∙ sym (ap (λ (x : Result ℕ WorkbookFault). on-ok x s (stated D s ls)) is),
+      )
 
   -- the store takes the clause: it is added
   pub accepted : (n : ℕ) (v : Unit {0}) (p : Page) (K : Contents Cell) → filed ≡ Ok v → n ≡ length (clauses (s .page .entries)) + 1 → p ≡ stated D s ls .page →
-    K ≡ after-all filed (D .terms) (s .contents) (placed-clause (D .meaning) qs (take 16 ls)) →
-    (Ok n ≡ state-answer D s ls) × (record { page = p; contents = K } ≡ stated D s ls)
-  accepted n v p K filed-ok number page after =
-      (ap Ok number ∙ sym (answer-is ∙ ap (λ (x : Result (Unit {0}) StoreFault). numbered (from-store x) (length (clauses (s .page .entries)) + 1)) filed-ok),
-       λ i. record {
-         page = page i;
-         contents = (contents-are K after ∙ ap (λ (x : Result (Unit {0}) StoreFault). after-all x (D .terms) (s .contents) (placed-clause (D .meaning) (s .page .places) ls)) filed-ok) i;
-       })
+      K ≡ after-all filed (D .terms) (s .contents) (placed-clause (D .meaning) qs (take 16 ls)) →
+      (Ok n ≡ state-answer D s ls) × (record { page = p; contents = K } ≡ stated D s ls)
+  accepted n v p K filed-ok number page after = (
+    ap Ok number ∙ sym (answer-is ∙ ap (λ (x : Result (Unit {0}) StoreFault). numbered (from-store x) (length (clauses (s .page .entries)) + 1)) filed-ok),
+    λ i. record {
+      page = page i;
+      contents = (contents-are K after ∙ ap (λ (x : Result (Unit {0}) StoreFault). after-all x (D .terms) (s .contents) (placed-clause (D .meaning) (s .page .places) ls)) filed-ok) i;
+    },
+  )

@@ -55,7 +55,13 @@ impl<M: Mapping, S: Store> Workbook<M, S> {
     {
         self.sheet.check_size(size)?;
         let start = self.sheet.total;
-        file_axioms(&self.mapping, &mut self.store, &mut self.sheet.memory, start, size)?;
+        file_axioms(
+            &self.mapping,
+            &mut self.store,
+            &mut self.sheet.memory,
+            start,
+            size,
+        )?;
         let width = self.mapping.width(size);
         Ok(self.sheet.add_variable(size, width))
     }
@@ -67,7 +73,12 @@ impl<M: Mapping, S: Store> Workbook<M, S> {
         ensures same { λ _. ⌜ made-of (M·Mapping .meaning) (S·Store .terms) (now (self .exit)) ≡ made-of (M·Mapping .meaning) (S·Store .terms) (now (self .entry)) ⌝ }
     {
         self.sheet.check_clause(literals)?;
-        file_clause(&self.mapping, &mut self.store, self.sheet.places.as_slice(), literals)?;
+        file_clause(
+            &self.mapping,
+            &mut self.store,
+            self.sheet.places.as_slice(),
+            literals,
+        )?;
         Ok(self.sheet.add_clause(literals))
     }
 

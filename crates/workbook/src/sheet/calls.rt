@@ -19,8 +19,11 @@ use std::alloc::Global;
 use translator::Place;
 
 const MOST_VARIABLES: usize = 255;
+
 const MOST_ENTRIES: usize = 1024;
+
 const MOST_LITERALS: usize = 4096;
+
 const CLAUSE_LITERALS: usize = 16;
 
 fn detail(first: u64) -> Details
@@ -131,7 +134,8 @@ impl Sheet {
         ensures page { λ _. ⌜ page-in (now (self .exit)) ≡ with-clause (page-in (now (self .entry))) (now (literals .entry)) ⌝ }
     {
         let _ = self.literals.extend_from_slice(literals);
-        self.slots.push_reserved(Slot::Clause(literals.len() as u32));
+        self.slots
+            .push_reserved(Slot::Clause(literals.len() as u32));
         self.clauses += 1;
         self.clauses
     }

@@ -15,7 +15,7 @@ returns-in-Break-variable c =
     let halves = c .cut-at-halves .ensures in
     c .from-residual-in-Break-variable .ensures
     ∙ sym (by-variable (c .args .field .now) _ _ (first-rest (c .args .field .now) _ some) _ (sym (c .of-byte .ensures) ∙ c .in-Continue-sign .was tt)
-      _ (sym (c .read-number .ensures ∙ ap number-of (halves .front)) ∙ c .in-Break-variable .was tt))
+    _ (sym (c .read-number .ensures ∙ ap number-of (halves .front)) ∙ c .in-Break-variable .was tt))
 
 pub returns-in-Break-halves : need.returns-in-Break-halves
 returns-in-Break-halves c =
@@ -23,8 +23,8 @@ returns-in-Break-halves c =
     let halves = c .cut-at-halves .ensures in
     c .from-residual-in-Break-halves .ensures
     ∙ sym (by-colon (c .args .field .now) _ _ (first-rest (c .args .field .now) _ some) _ (sym (c .of-byte .ensures) ∙ c .in-Continue-sign .was tt)
-      _ (sym (c .read-number .ensures ∙ ap number-of (halves .front)) ∙ c .in-Continue-variable .was tt)
-      _ (sym (halves .rest) ∙ ap (mapped now) (c .in-Break-halves .was tt)))
+    _ (sym (c .read-number .ensures ∙ ap number-of (halves .front)) ∙ c .in-Continue-variable .was tt)
+    _ (sym (halves .rest) ∙ ap (mapped now) (c .in-Break-halves .was tt)))
 
 pub returns-in-Break-value : need.returns-in-Break-value
 returns-in-Break-value c =
@@ -32,15 +32,15 @@ returns-in-Break-value c =
     let halves = c .cut-at-halves .ensures in
     c .from-residual-in-Break-value .ensures
     ∙ sym (by-value (c .args .field .now) _ _ (first-rest (c .args .field .now) _ some) _ (sym (c .of-byte .ensures) ∙ c .in-Continue-sign .was tt)
-      _ (sym (c .read-number .ensures ∙ ap number-of (halves .front)) ∙ c .in-Continue-variable .was tt)
-      _ (sym (halves .rest) ∙ ap (mapped now) (c .in-Continue-halves .was tt))
-      _ (sym (c .read-number-2 .ensures) ∙ c .in-Break-value .was tt))
+    _ (sym (c .read-number .ensures ∙ ap number-of (halves .front)) ∙ c .in-Continue-variable .was tt)
+    _ (sym (halves .rest) ∙ ap (mapped now) (c .in-Continue-halves .was tt))
+    _ (sym (c .read-number-2 .ensures) ∙ c .in-Break-value .was tt))
 
 pub returns : need.returns
 returns c =
     let some : 0 < length (c .args .field .now) = search needs in
     let halves = c .cut-at-halves .ensures in
     sym (by-value (c .args .field .now) _ _ (first-rest (c .args .field .now) _ some) _ (sym (c .of-byte .ensures) ∙ c .in-Continue-sign .was tt)
-      _ (sym (c .read-number .ensures ∙ ap number-of (halves .front)) ∙ c .in-Continue-variable .was tt)
-      _ (sym (halves .rest) ∙ ap (mapped now) (c .in-Continue-halves .was tt))
-      _ (sym (c .read-number-2 .ensures) ∙ c .in-Continue-value .was tt))
+    _ (sym (c .read-number .ensures ∙ ap number-of (halves .front)) ∙ c .in-Continue-variable .was tt)
+    _ (sym (halves .rest) ∙ ap (mapped now) (c .in-Continue-halves .was tt))
+    _ (sym (c .read-number-2 .ensures) ∙ c .in-Continue-value .was tt))

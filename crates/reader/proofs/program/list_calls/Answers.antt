@@ -13,12 +13,12 @@ loop-line-again c =
     let calls = vec-items (c .loop-line .calls) in
     let i = c .loop-line .line-index in
     elim (c .match-call-of .came) [
-      in-Some·in-Continue-push w ↦
-        subst (λ (xs : List Call). Calls all xs (i + 1)) (sym (ap vec-items (w .calls-is) ∙ w .in-Continue-push .ensures tt .items))
-        (calls-more all calls i (c .loop-line .inv) (c .line-item .result) (w .in-Some .call ∷ []) (c .loop-line-test .taken) (c .line-item .is) (w .in-Some .ensures tt))
-    | in-rest w ↦
-        subst (λ (xs : List Call). Calls all xs (i + 1)) (append-nil calls ∙ sym (ap vec-items (w .calls-is)))
-        (calls-more all calls i (c .loop-line .inv) (c .line-item .result) [] (c .loop-line-test .taken) (c .line-item .is) (w .in-rest .ensures tt))
+      | in-Some·in-Continue-push w ↦
+          subst (λ (xs : List Call). Calls all xs (i + 1)) (sym (ap vec-items (w .calls-is) ∙ w .in-Continue-push .ensures tt .items))
+          (calls-more all calls i (c .loop-line .inv) (c .line-item .result) (w .in-Some .call ∷ []) (c .loop-line-test .taken) (c .line-item .is) (w .in-Some .ensures tt))
+      | in-rest w ↦
+          subst (λ (xs : List Call). Calls all xs (i + 1)) (append-nil calls ∙ sym (ap vec-items (w .calls-is)))
+          (calls-more all calls i (c .loop-line .inv) (c .line-item .result) [] (c .loop-line-test .taken) (c .line-item .is) (w .in-rest .ensures tt))
     ]
 
 pub returns : need.returns

@@ -12,7 +12,7 @@ pub returns : need.returns
 returns g c =
     let said = c .put-words .ensures in
     let done =
-          stored (g .S·Store .terms (c .args .store .now)) (g .S·Store .contents (c .args .store .now)) (g .M·Mapping .meaning) (g .M·Mapping·met .lawful) (g .S·Store .laws (c .args .store .now)) (c .args .start) (c .args .size)
-          _ _ _ _ _ _ (c .axioms-count .ensures .memory) (c .axioms-count .ensures .count) (ap (λ n. c .args .start + n) (c .width .ensures)) (c .check-room .ensures) (c .in-Continue-check-room .was tt)
-          _ _ _ (said .answer) (said .after) (said .words) in
+    stored (g .S·Store .terms (c .args .store .now)) (g .S·Store .contents (c .args .store .now)) (g .M·Mapping .meaning) (g .M·Mapping·met .lawful) (g .S·Store .laws (c .args .store .now)) (c .args .start) (c .args .size)
+    _ _ _ _ _ _ (c .axioms-count .ensures .memory) (c .axioms-count .ensures .count) (ap (λ n. c .args .start + n) (c .width .ensures)) (c .check-room .ensures) (c .in-Continue-check-room .was tt)
+    _ _ _ (said .answer) (said .after) (said .words) in
     record { answer = done .0; after = done .1; same = said .same; memory = done .2 }

@@ -51,20 +51,20 @@ loop-i-again g c =
     let within : i < length ws = omega (arith, h .long) in
     let fits : SFits w32 (getD ws i (pos 0)) = search needs in
     elim (c .if-words-i-eq0 .came) [
-      then-words-i-eq0·in-Continue-put w ↦
-        let said = w .put .ensures in
-        subst (λ (n : ℕ). Going T K (c .args .start) (c .args .words .now) (S .terms (c .if-words-i-eq0 .store)) (S .contents (c .if-words-i-eq0 .store)) (c .if-words-i-eq0 .words) n (i + 1)) (sym (w .begin-is))
-        (going-end T K _ _ _ _ _ _ _ h within (zero-word _ fits (w .if-words-i-eq0 .taken)) _ _ _ _ _ (part T K _ _ _ _ _ _ _ h within) (said .answer)
+      | then-words-i-eq0·in-Continue-put w ↦
+          let said = w .put .ensures in
+          subst (λ (n : ℕ). Going T K (c .args .start) (c .args .words .now) (S .terms (c .if-words-i-eq0 .store)) (S .contents (c .if-words-i-eq0 .store)) (c .if-words-i-eq0 .words) n (i + 1)) (sym (w .begin-is))
+          (going-end T K _ _ _ _ _ _ _ h within (zero-word _ fits (w .if-words-i-eq0 .taken)) _ _ _ _ _ (part T K _ _ _ _ _ _ _ h within) (said .answer)
           (ap (S .contents) (w .store-is) ∙ said .after) (ap (S .terms) (w .store-is) ∙ said .same) (w .words-is ∙ lent-back _ _ ws _ (said .lent)))
-    | else-words-i-eq0 w ↦
-        let literal : getD ws i (pos 0) ≡ pos 0 → ⊥ = λ e. w .if-words-i-eq0 .left (ap (ofZ w32) e) in
-        let out : SFits w32 (w .shift .result) = search needs in
-        let wrote : c .if-words-i-eq0 .words ≡ set ws i (shifted-word (c .args .start) (getD ws i (pos 0))) =
-              w .words-is ∙ ap (set ws i) (toZ-ofZ w32 _ out ∙ w .shift .ensures ∙ ap (shifted (c .args .start)) (toZ-ofZ w32 _ fits) ∙ sym (shifted-literal (c .args .start) _ literal)) in
-        subst (λ (n : ℕ). Going T K (c .args .start) (c .args .words .now) (S .terms (c .if-words-i-eq0 .store)) (S .contents (c .if-words-i-eq0 .store)) (c .if-words-i-eq0 .words) n (i + 1)) (sym (w .begin-is))
-        (subst (λ (xs : List ℤ). Going T K (c .args .start) (c .args .words .now) (S .terms (c .if-words-i-eq0 .store)) (S .contents (c .if-words-i-eq0 .store)) xs (c .loop-i .begin) (i + 1)) (sym wrote)
+      | else-words-i-eq0 w ↦
+          let literal : getD ws i (pos 0) ≡ pos 0 → ⊥ = λ e. w .if-words-i-eq0 .left (ap (ofZ w32) e) in
+          let out : SFits w32 (w .shift .result) = search needs in
+          let wrote : c .if-words-i-eq0 .words ≡ set ws i (shifted-word (c .args .start) (getD ws i (pos 0))) =
+          w .words-is ∙ ap (set ws i) (toZ-ofZ w32 _ out ∙ w .shift .ensures ∙ ap (shifted (c .args .start)) (toZ-ofZ w32 _ fits) ∙ sym (shifted-literal (c .args .start) _ literal)) in
+          subst (λ (n : ℕ). Going T K (c .args .start) (c .args .words .now) (S .terms (c .if-words-i-eq0 .store)) (S .contents (c .if-words-i-eq0 .store)) (c .if-words-i-eq0 .words) n (i + 1)) (sym (w .begin-is))
+          (subst (λ (xs : List ℤ). Going T K (c .args .start) (c .args .words .now) (S .terms (c .if-words-i-eq0 .store)) (S .contents (c .if-words-i-eq0 .store)) xs (c .loop-i .begin) (i + 1)) (sym wrote)
           (subst (λ (s : g .S .Denot). Going T K (c .args .start) (c .args .words .now) (S .terms s) (S .contents s) (set ws i (shifted-word (c .args .start) (getD ws i (pos 0)))) (c .loop-i .begin) (i + 1)) (sym (w .store-is))
-            (going-on T K _ _ _ _ _ _ _ h within literal)))
+          (going-on T K _ _ _ _ _ _ _ h within literal)))
     ]
 
 pub returns : need.returns

@@ -31,9 +31,9 @@ part-is : (forms : List PlacedForm) (n : ℕ) → part forms n ≡ take n forms
 part-is forms n = ap (λ (k : ℕ). take k forms) (sub-zero n)
 
 asked : {Cell : Type 0} (T : Terms Cell) (K : Contents Cell) (M : Meaning) (ps : List Place) (ls : List Literal) (forms : List PlacedForm) (h n : ℕ) (answer : Result (Unit {0}) StoreFault) →
-  map form-in (take (length ls) forms) ≡ map (form-at M ps) ls → All Few (take (length ls) forms) → length ls ≤ 16 →
-  h ≡ reach M ps ls → n ≡ words-of (distributed (map form-in (part forms (length ls)))) → answer ≡ room-answer T K h n →
-  Asked T K M ps ls (part forms (length ls)) h n answer
+    map form-in (take (length ls) forms) ≡ map (form-at M ps) ls → All Few (take (length ls) forms) → length ls ≤ 16 →
+    h ≡ reach M ps ls → n ≡ words-of (distributed (map form-in (part forms (length ls)))) → answer ≡ room-answer T K h n →
+    Asked T K M ps ls (part forms (length ls)) h n answer
 asked T K M ps ls forms h n answer loaded few within highest counted said = record {
   forms = ap (map form-in) (part-is forms (length ls)) ∙ loaded;
   few = subst (All Few) (sym (part-is forms (length ls))) few;

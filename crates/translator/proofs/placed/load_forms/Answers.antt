@@ -10,10 +10,11 @@ use Rattle.translator.proofs.Loading.{mapped-more, all-more-set}
 use Rattle.translator.proofs.placed.load_forms.Needs as need
 
 pub loop-i-again : need.loop-i-again
-loop-i-again g c =
-    (mapped-more form-in (form-at (g .M·Mapping .meaning) (c .args .places .now)) (c .loop-i .forms) (c .args .literals .now) (c .loop-i .i) _ _ (omega arith) (omega arith) (c .loop-i .inv .0) (c .load-form .ensures .form),
-     all-more-set Few (c .loop-i .forms) (c .loop-i .i) _ (omega arith) (c .loop-i .inv .1) (c .load-form .ensures .few),
-     length-set (c .loop-i .forms) _ _ ∙ c .loop-i .inv .2)
+loop-i-again g c = (
+  mapped-more form-in (form-at (g .M·Mapping .meaning) (c .args .places .now)) (c .loop-i .forms) (c .args .literals .now) (c .loop-i .i) _ _ (omega arith) (omega arith) (c .loop-i .inv .0) (c .load-form .ensures .form),
+  all-more-set Few (c .loop-i .forms) (c .loop-i .i) _ (omega arith) (c .loop-i .inv .1) (c .load-form .ensures .few),
+  length-set (c .loop-i .forms) _ _ ∙ c .loop-i .inv .2,
+)
 
 pub returns : need.returns
 returns g c =

@@ -20,4 +20,4 @@ returns c =
     let fits : SFits w32 (c .shift .result) = search needs in
     ap (set (c .args .front .now) (c .args .at))
     (toZ-ofZ w32 (c .shift .result) fits ∙ c .shift .ensures ∙ ap (shifted (c .args .form .now .start)) (toZ-ofZ w32 _ read)
-      ∙ sym (own-at (c .args .form .now) (c .args .i) (c .pre .0 .few) (c .pre .1 .0)))
+    ∙ sym (own-at (c .args .form .now) (c .args .i) (c .pre .0 .few) (c .pre .1 .0)))

@@ -14,10 +14,11 @@ pub loop-i-again : need.loop-i-again
 loop-i-again c =
     let long = held-count (c .args .form .now) (c .pre .0 .few) in
     let front = c .loop-i .front in
-    let i = c .loop-i .i in
-    (ap (take (c .args .at + (i + 1))) (c .put-literal .ensures)
-      ∙ copied-more front (c .args .at) i (take (c .args .at) (c .args .front .now)) (own-literals (c .args .form .now)) (pos 0) (c .loop-i .inv .0) (omega arith) (omega arith),
-     ap length (c .put-literal .ensures) ∙ length-set front _ _ ∙ c .loop-i .inv .1)
+    let i = c .loop-i .i in (
+      ap (take (c .args .at + (i + 1))) (c .put-literal .ensures)
+          ∙ copied-more front (c .args .at) i (take (c .args .at) (c .args .front .now)) (own-literals (c .args .form .now)) (pos 0) (c .loop-i .inv .0) (omega arith) (omega arith),
+      ap length (c .put-literal .ensures) ∙ length-set front _ _ ∙ c .loop-i .inv .1,
+    )
 
 pub returns : need.returns
 returns c =

@@ -28,16 +28,31 @@ ghost-self c =
     let slotted = c .push-reserved .ensures in
     let room : vec-len (s .literals) + length (c .args .literals .now) ≤ 4096 = omega (arith, literals-held s, c .pre .room) in
     let ok : isOk (c .extend-from-slice .result) ≡ true = more .succeeds (omega (arith, s .«literals_kept»)) in
-    let long : vec-len (c .extend-from-slice .last .self) ≡ vec-len (s .literals) + length (c .args .literals .now) = more .len ∙ cond-true _ _ _ ok in
-    (s .«places_kept»,
-     (omega (arith, slotted .capacity, s .«slots_kept»),
-      (omega (arith, more .capacity, s .«literals_kept»),
-       (s .«places_few»,
-        (omega (arith, slotted .len, entries-held s, c .pre .space),
-         (omega (arith, long, room),
-          (s .«total_few»,
-           (ap slot-literals (slotted .items) ∙ more-literals (vec-items (s .slots)) _ ∙ omega (arith, s .«literals_counted», long),
-            (ap slot-clauses (slotted .items) ∙ more-clauses (vec-items (s .slots)) _ ∙ omega (arith, s .«clauses_counted»), tt)))))))))
+    let long : vec-len (c .extend-from-slice .last .self) ≡ vec-len (s .literals) + length (c .args .literals .now) = more .len ∙ cond-true _ _ _ ok in (
+      s .«places_kept»,
+      (
+        omega (arith, slotted .capacity, s .«slots_kept»),
+        (
+          omega (arith, more .capacity, s .«literals_kept»),
+          (
+            s .«places_few»,
+            (
+              omega (arith, slotted .len, entries-held s, c .pre .space),
+              (
+                omega (arith, long, room),
+                (
+                  s .«total_few»,
+                  (
+                    ap slot-literals (slotted .items) ∙ more-literals (vec-items (s .slots)) _ ∙ omega (arith, s .«literals_counted», long),
+                    (ap slot-clauses (slotted .items) ∙ more-clauses (vec-items (s .slots)) _ ∙ omega (arith, s .«clauses_counted»), tt),
+                  ),
+                ),
+              ),
+            ),
+          ),
+        ),
+      ),
+    )
 
 pub returns : need.returns
 returns c =

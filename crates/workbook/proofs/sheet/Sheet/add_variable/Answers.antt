@@ -18,16 +18,31 @@ ghost-self c =
     let s = c .args .self .now in
     let placed = c .push-reserved .ensures in
     let slotted = c .push-reserved-2 .ensures in
-    let few : vec-len (s .places) < 255 = omega (arith, c .pre .few, s .places .ok .0) in
-    (omega (arith, placed .capacity, s .«places_kept»),
-     (omega (arith, slotted .capacity, s .«slots_kept»),
-      (s .«literals_kept»,
-       (omega (arith, placed .len),
-        (omega (arith, slotted .len, entries-held s, c .pre .space),
-         (s .«literals_few»,
-          (omega (arith, placed .len, s .«total_few», c .pre .narrow),
-           (ap slot-literals (slotted .items) ∙ more-literals (vec-items (s .slots)) _ ∙ omega (arith, s .«literals_counted»),
-            (ap slot-clauses (slotted .items) ∙ more-clauses (vec-items (s .slots)) _ ∙ omega (arith, s .«clauses_counted»), tt)))))))))
+    let few : vec-len (s .places) < 255 = omega (arith, c .pre .few, s .places .ok .0) in (
+      omega (arith, placed .capacity, s .«places_kept»),
+      (
+        omega (arith, slotted .capacity, s .«slots_kept»),
+        (
+          s .«literals_kept»,
+          (
+            omega (arith, placed .len),
+            (
+              omega (arith, slotted .len, entries-held s, c .pre .space),
+              (
+                s .«literals_few»,
+                (
+                  omega (arith, placed .len, s .«total_few», c .pre .narrow),
+                  (
+                    ap slot-literals (slotted .items) ∙ more-literals (vec-items (s .slots)) _ ∙ omega (arith, s .«literals_counted»),
+                    (ap slot-clauses (slotted .items) ∙ more-clauses (vec-items (s .slots)) _ ∙ omega (arith, s .«clauses_counted»), tt),
+                  ),
+                ),
+              ),
+            ),
+          ),
+        ),
+      ),
+    )
 
 pub returns : need.returns
 returns c =

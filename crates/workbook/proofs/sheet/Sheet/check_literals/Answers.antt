@@ -10,7 +10,7 @@ returns-in-Break-check-literal c =
     let p = err-from-errBy (c .from-residual .result) (c .from-residual .ensures .1) in
     p .1 ∙ ap Err (p .2)
     ∙ checked-stop (vec-items (c .args .self .now .places)) (c .args .literals .now) (c .loop-i .i) (c .loop-i .inv) _ _ _ (c .loop-i-test .taken)
-      (c .as-slice .ensures .value) (c .check-literal .ensures) _ (c .in-Break-check-literal .was tt)
+    (c .as-slice .ensures .value) (c .check-literal .ensures) _ (c .in-Break-check-literal .was tt)
 
 pub loop-i-again : need.loop-i-again
 loop-i-again c =
