@@ -1,9 +1,2 @@
-pub mod Clauses
-pub mod Commands
-pub mod Cutting
-pub mod Digits
-pub mod LineByLine
-pub mod Parting
 pub mod Rowed
-pub mod Signed
 pub mod Translating

@@ -9,9 +9,9 @@ use Rattle.std.specs.Joined.{joined}
 use Rattle.rows.specs.declared.Answer.{Answer}
 use Rattle.rows.specs.declared.Call.{Call}
 use Rattle.rows.specs.Rows.{Step, step-of}
-use Rattle.reader.specs.declared.lines.Line.{Line}
+use Rattle.parser.specs.declared.lines.Line.{Line}
 use Rattle.reader.specs.Program.{steps-in, outcome, outcome-line, refused-lines}
-use Rattle.reader.specs.Said.{Said, said-of}
+use Rattle.parser.specs.Said.{Said, said-of}
 
 module _ (all : List Line) where
   -- the calls so far, and those of the lines that are left

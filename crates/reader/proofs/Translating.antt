@@ -18,10 +18,10 @@ use Rattle.text_store.specs.Texts.{text-clauses}
 use Rattle.workbook.specs.States.{Made, State, new-state}
 use Rattle.rows.specs.declared.Answer.{Answer}
 use Rattle.rows.specs.Rows.{Step, Done, row-answers, after-row, after-step}
-use Rattle.reader.specs.declared.lines.Line.{Line}
-use Rattle.reader.specs.Cuts.{lines}
+use Rattle.parser.specs.declared.lines.Line.{Line}
+use Rattle.parser.specs.Cuts.{lines}
 use Rattle.reader.specs.Program.{steps-in, refused-lines, header, buffer, made-by, printed, translated, no-text, by-first, by-lines, output}
-use Rattle.reader.specs.Said.{Said, said, said-of}
+use Rattle.parser.specs.Said.{Said, said, said-of}
 
 length-answers : {Cell : Type 0} (D : Made Cell) (s : State Cell) (cs : List Step) → length (row-answers D s cs) ≡ length cs
 length-answers D s [] = refl

@@ -1,5 +1,2 @@
-pub mod Cuts
 pub mod Faults
-pub mod Fields
 pub mod Program
-pub mod Said

@@ -24,9 +24,9 @@ use Rattle.rows.specs.Rows as rows
 use Rattle.rows.specs.Rows.{Step, row-answers, after-row}
 use Rattle.reader.specs.declared.faults.LineFault.{LineFault}
 use Rattle.reader.specs.declared.faults.LineFault.the-variants.{Line, Workbook}
-use Rattle.reader.specs.Cuts.{lines}
+use Rattle.parser.specs.Cuts.{lines}
 use Rattle.reader.specs.Faults.{refusal-of}
-use Rattle.reader.specs.Said.{Said, maps, declares, states, unreadable, said}
+use Rattle.parser.specs.Said.{Said, maps, declares, states, unreadable, said}
 
 -- the call of a readable line
 abbrev pub steps-in : Said → List Step

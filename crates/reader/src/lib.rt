@@ -1,8 +1,5 @@
-// Reads a text of lines, makes their calls as one row, and writes what the program prints.
-mod cuts;
+// Makes the calls of a text's lines as one row, and writes what the program prints.
 pub mod faults;
-mod fields;
-mod lines;
 mod printing;
 pub mod program;
 

@@ -7,7 +7,7 @@ use Rattle.std.proofs.shelf.Results.{made-weaker}
 use Rattle.std.specs.Of.Vec.{vec-items}
 use Rattle.rows.specs.Rows.{step-of}
 use Rattle.reader.specs.Program.{translated}
-use Rattle.reader.specs.Said.{said-of}
+use Rattle.parser.specs.Said.{said-of}
 use Rattle.reader.proofs.Translating.{translated-is}
 use Rattle.reader.proofs.program.translate_lines.Needs as need
 

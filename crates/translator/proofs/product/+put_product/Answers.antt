@@ -38,13 +38,13 @@ loop-i-holds g t c =
 pub put-product-requires : need.put-product-requires
 put-product-requires g t c κs within =
     let some : 0 < length (c .args .forms .now) = search needs in
-    (search needs, (search needs, ready-one _ _ _ _ _ _ _ _ _ _ (c .args .forms .now) (first-rest (c .args .forms .now) _ some) (c .pre) (c .loop-i .inv) (c .loop-i-test .taken) _ (c .put-literal .ensures)))
+    (search needs, (search needs, ready-one _ _ _ _ _ _ _ _ _ _ (c .args .forms .now) (first-rest (c .args .forms .now) _ some) (c .pre) (c .loop-i .inv) (omega arith) _ (c .put-literal .ensures)))
 
 pub loop-i-again : need.loop-i-again
 loop-i-again g t c =
     let some : 0 < length (c .args .forms .now) = search needs in
     let said = c .put-product .ensures in
-    going-more _ _ _ _ _ _ _ _ _ _ (c .args .forms .now) (first-rest (c .args .forms .now) _ some) (c .pre) (c .loop-i .inv) (c .loop-i-test .taken)
+    going-more _ _ _ _ _ _ _ _ _ _ (c .args .forms .now) (first-rest (c .args .forms .now) _ some) (c .pre) (c .loop-i .inv) (omega arith)
     _ _ _ _ (c .put-literal .ensures) (said .same) (said .after) (said .kept) (c .put-product .array-long)
 
 pub put-product-requires-in-AnyOf : need.put-product-requires-in-AnyOf
@@ -57,7 +57,7 @@ returns-after-loop-i g t c =
     let some : 0 < length (c .args .forms .now) = search needs in
     record {
       answer = refl;
-      after = going-all _ _ _ _ _ _ _ _ _ _ (c .args .forms .now) (first-rest (c .args .forms .now) _ some) (c .pre) (c .loop-i .inv) (c .in-AllOf .is) (c .loop-i-test .left);
+      after = going-all _ _ _ _ _ _ _ _ _ _ (c .args .forms .now) (first-rest (c .args .forms .now) _ some) (c .pre) (c .loop-i .inv) (c .in-AllOf .is) (omega arith);
       same = c .loop-i .inv .terms;
       kept = c .loop-i .inv .kept;
     }
