@@ -7,13 +7,10 @@ use lib.IntN.{ℤ}
 use lib.ListN.{length, length-append}
 use Rattle.std.specs.Joined.{joined}
 use Rattle.std.proofs.shelf.Lists.{length-map}
+use Rattle.formula.proofs.Tests.{sum-append}
 use Rattle.formula.specs.Boolean.{Clause, words, words-of}
 use Rattle.formula.specs.Tests.{sum-of, product-of}
 use Rattle.mapping.specs.Forms.{Form, all-of, any-of, choices, distributed, split, taken}
-
-pub sum-append : {X : Type 0} (f : X → ℕ) (xs ys : List X) → sum-of f (xs ++ ys) ≡ sum-of f xs + sum-of f ys
-sum-append f [] ys = omega arith
-sum-append f (x ∷ xs) ys = omega (arith, sum-append f xs ys)
 
 -- what one choice of a form gives, in front of the clauses of the others
 abbrev pub fronted : List Clause → List ℤ → List Clause

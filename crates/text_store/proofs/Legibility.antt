@@ -21,7 +21,7 @@ use Rattle.text_store.specs.Texts.{text-literal, text-line, text-clause, word-
 use Rattle.text_store.proofs.Lines.{Legible}
 use Rattle.text_store.proofs.Literals.{lows-append, clean-append, lows-high, clean-high, lows-joined, clean-joined, length-joined-le}
 use Rattle.text_store.proofs.Marks.{pieces-joined}
-use Rattle.text_store.proofs.Tests.{every-push, every-weaker, map-back, sum-ones}
+use Rattle.formula.proofs.Tests.{every-push, every-weaker, map-back, sum-ones}
 
 -- digits are 48 and more, so a minus sign is none
 digits-high : (n : ℕ) → n < 2 ^ 64 → every (leb 48) (decimal n) ≡ true

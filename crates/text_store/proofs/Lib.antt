@@ -10,4 +10,3 @@ pub mod Literals
 pub mod Marks
 pub mod Places
 pub mod Rows
-pub mod Tests

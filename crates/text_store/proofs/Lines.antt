@@ -16,7 +16,7 @@ use Rattle.text_store.specs.Bytes.{pieces, clean, Closed, lows, Piece-from}
 use Rattle.text_store.proofs.Literals.{length-joined-le}
 use Rattle.text_store.proofs.Marks.{pieces-joined, same-front}
 use Rattle.text_store.proofs.Rows.{joined-push}
-use Rattle.text_store.proofs.Tests.{every-push, every-parts, every-weaker, map-back, sum-push}
+use Rattle.formula.proofs.Tests.{every-push, every-parts, every-weaker, map-back, sum-push}
 
 -- clauses as lines
 abbrev pub lines : (Clause → List ℕ) → ℕ → List Clause → List ℕ

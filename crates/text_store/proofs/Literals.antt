@@ -14,7 +14,7 @@ use Rattle.std.proofs.shelf.Ways.{tells}
 use Rattle.formula.specs.Boolean.{Clause}
 use Rattle.formula.specs.Tests.{every, sum-of}
 use Rattle.text_store.specs.Bytes.{clean, lows}
-use Rattle.text_store.proofs.Tests.{every-append, every-weaker, sum-append}
+use Rattle.formula.proofs.Tests.{every-append, every-weaker, sum-append}
 
 pub lows-append : (bound : ℕ) (xs ys : List ℕ) → lows bound (xs ++ ys) ≡ lows bound xs + lows bound ys
 lows-append bound xs ys = sum-append (λ b. cond (ltb b bound) 1 0) xs ys

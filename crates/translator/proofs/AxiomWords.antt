@@ -24,7 +24,8 @@ use Rattle.translator.specs.Filing.{room-answer, axioms-answer, with-all, afte
 use Rattle.translator.specs.Places.{placed-axioms}
 use Rattle.translator.specs.Placed.{Takes}
 use Rattle.translator.specs.Words.{ended-in, shifted-word, Storable, axioms-left}
-use Rattle.translator.proofs.Fitting.{every-from, every-both, every-map, clause-fits, shifted-number}
+use Rattle.translator.proofs.Fitting.{clause-fits, shifted-number}
+use Rattle.formula.proofs.Tests.{every-append, every-weaker, every-map}
 use Rattle.translator.proofs.Rooms.{room-ok}
 use Rattle.translator.proofs.Worded.{shifted-literal, ended-in-more}
 
@@ -61,8 +62,8 @@ module _ (w start : ℕ) where
   small-words within [] own = refl
   small-words within (c ∷ cs) own =
       let both = and-parts (every (local w) c) (every (every (local w)) cs) own in
-      every-both small (ended c) (flat cs)
-      (every-both small c (pos 0 ∷ []) (every-from (local w) small one c (both .0)) refl)
+      every-append small (ended c) (flat cs)
+      (every-append small c (pos 0 ∷ []) (every-weaker (local w) small one c (both .0)) refl)
       (small-words within cs (both .1))
     where
       small : ℤ → Bool
@@ -95,7 +96,7 @@ module _ {Cell : Type 0} (T : Terms Cell) (K : Contents Cell) (M : Meaning) (law
   placed-fit : start + M .width m ≤ T .largest → every (every (fits (T .largest))) (placed-axioms M start m) ≡ true
   placed-fit within =
       every-map (every (fits (T .largest))) (map (shifted start)) (M .axioms m)
-      (every-from (every (local (M .width m))) (λ c. every (fits (T .largest)) (map (shifted start) c)) (clause-fits (T .largest) start (M .width m) within) (M .axioms m) own)
+      (every-weaker (every (local (M .width m))) (λ c. every (fits (T .largest)) (map (shifted start) c)) (clause-fits (T .largest) start (M .width m) within) (M .axioms m) own)
 
   -- the clauses that end in the moved words are the placed axioms
   placed-ended : start + M .width m ≤ T .largest → ended-in [] (map (shifted-word start) (flat (M .axioms m))) ≡ placed-axioms M start m

@@ -14,17 +14,10 @@ use Rattle.std.specs.declared.result.Result.{Result}
 use Rattle.std.specs.declared.result.Result.the-variants.{Ok, Err}
 use Rattle.formula.specs.Boolean.{Clause, words, words-of}
 use Rattle.formula.specs.Tests.{every}
-use Rattle.mapping.proofs.Distribution.{sum-append}
+use Rattle.formula.proofs.Tests.{every-parts, sum-append}
 use Rattle.store.specs.Stores.{Terms, Contents, fits, unfit, words-left, words-answer, put-answer, answer-by, appended}
 use Rattle.translator.specs.Filing.{with-all}
 use Rattle.translator.specs.Placed.{Takes}
-
-every-append : {X : Type 0} (p : X → Bool) (xs ys : List X) → every p (xs ++ ys) ≡ true → (every p xs ≡ true) × (every p ys ≡ true)
-every-append p [] ys h = (refl, h)
-every-append p (x ∷ xs) ys h =
-    let both = and-parts (p x) (every p (xs ++ ys)) h in
-    let rest = every-append p xs ys (both .1) in
-    (and-from (p x) (every p xs) (both .0) (rest .0), rest .1)
 
 module _ {Cell : Type 0} (T : Terms Cell) where
   pub with-none : (K : Contents Cell) → with-all T K [] ≡ K
@@ -63,7 +56,7 @@ module _ {Cell : Type 0} (T : Terms Cell) where
 
   pub taken-parts : (xs ys : List Clause) (K : Contents Cell) → Takes T K (xs ++ ys) → Takes T K xs × Takes T (with-all T K xs) ys
   taken-parts xs ys K t =
-      let both = every-append (every (fits (T .largest))) xs ys (t .fit) in
+      let both = every-parts (every (fits (T .largest))) xs ys (t .fit) in
       let sum = sum-append words xs ys in (
         record { fit = both .0; room = omega (arith, t .room) },
         record { fit = both .1; room = omega (arith, t .room, sum-append words (K .list) xs) },

@@ -12,6 +12,7 @@ use Rattle.std.specs.shelf.Lists.{All}
 use Rattle.std.proofs.shelf.Tests.{and-parts, and-from, le-leb, leb-true, lt-ltb}
 use Rattle.formula.specs.Boolean.{Clause, number, local}
 use Rattle.formula.specs.Tests.{every}
+use Rattle.formula.proofs.Tests.{every-append, every-weaker, every-map}
 use Rattle.formula.specs.declared.signed.Literal.{Literal}
 use Rattle.mapping.specs.Forms.{Form, all-of, any-of, members, shifted, shifted-form, choices, distributed}
 use Rattle.mapping.specs.Meanings.{Meaning, Lawful}
@@ -24,24 +25,6 @@ use Rattle.translator.specs.declared.places.Place.{Place}
 use Rattle.translator.specs.declared.placed.PlacedForm.{PlacedForm}
 use Rattle.translator.specs.Places.{place-at, form-at, reach}
 use Rattle.translator.specs.Placed.{of-kind, form-in, own-literals, Few, Small}
-
-pub every-from : {X : Type 0} (p q : X → Bool) → ((x : X) → p x ≡ true → q x ≡ true) → (xs : List X) → every p xs ≡ true → every q xs ≡ true
-every-from p q step [] h = refl
-every-from p q step (x ∷ xs) h =
-    let both = and-parts (p x) (every p xs) h in
-    and-from (q x) (every q xs) (step x (both .0)) (every-from p q step xs (both .1))
-
-pub every-both : {X : Type 0} (p : X → Bool) (xs ys : List X) → every p xs ≡ true → every p ys ≡ true → every p (xs ++ ys) ≡ true
-every-both p [] ys h k = k
-every-both p (x ∷ xs) ys h k =
-    let both = and-parts (p x) (every p xs) h in
-    and-from (p x) (every p (xs ++ ys)) (both .0) (every-both p xs ys (both .1) k)
-
-pub every-map : {X Y : Type 0} (p : Y → Bool) (f : X → Y) (xs : List X) → every (λ x. p (f x)) xs ≡ true → every p (map f xs) ≡ true
-every-map p f [] h = refl
-every-map p f (x ∷ xs) h =
-    let both = and-parts (p (f x)) (every (λ y. p (f y)) xs) h in
-    and-from (p (f x)) (every p (map f xs)) (both .0) (every-map p f xs (both .1))
 
 -- a variable's own literal, behind the Booleans before it
 pub shifted-number : (n : ℕ) (l : ℤ) → number (shifted n l) ≡ number l + n
@@ -57,7 +40,7 @@ shifted-fits L start w within l own =
     and-from (leb 1 (number (shifted start l))) (leb (number (shifted start l)) L) (le-leb _ _ (omega arith)) (le-leb _ _ (omega arith))
 
 pub clause-fits : (L start w : ℕ) → start + w ≤ L → (c : List ℤ) → every (local w) c ≡ true → every (fits L) (map (shifted start) c) ≡ true
-clause-fits L start w within c own = every-map (fits L) (shifted start) c (every-from (local w) (λ l. fits L (shifted start l)) (shifted-fits L start w within) c own)
+clause-fits L start w within c own = every-map (fits L) (shifted start) c (every-weaker (local w) (λ l. fits L (shifted start l)) (shifted-fits L start w within) c own)
 
 members-shifted : (start : ℕ) (f : Form) → members (shifted-form start f) ≡ map (shifted start) (members f)
 members-shifted start (all-of ls) = refl
@@ -83,17 +66,17 @@ module _ (L : ℕ) where
   fits-fronted c h [] k = refl
   fits-fronted c h (d ∷ ds) k =
       let both = and-parts (every (fits L) d) (every (every (fits L)) ds) k in
-      and-from (every (fits L) (c ++ d)) (every (every (fits L)) (fronted ds c)) (every-both (fits L) c d h (both .0)) (fits-fronted c h ds (both .1))
+      and-from (every (fits L) (c ++ d)) (every (every (fits L)) (fronted ds c)) (every-append (fits L) c d h (both .0)) (fits-fronted c h ds (both .1))
 
   fits-joined : (cs : List (List ℤ)) → every (every (fits L)) cs ≡ true → (ds : List Clause) → every (every (fits L)) ds ≡ true →
       every (every (fits L)) (joined (fronted ds) cs) ≡ true
   fits-joined [] h ds k = refl
   fits-joined (c ∷ cs) h ds k =
       let both = and-parts (every (fits L) c) (every (every (fits L)) cs) h in
-      every-both (every (fits L)) (fronted ds c) (joined (fronted ds) cs) (fits-fronted c (both .0) ds k) (fits-joined cs (both .1) ds k)
+      every-append (every (fits L)) (fronted ds c) (joined (fronted ds) cs) (fits-fronted c (both .0) ds k) (fits-joined cs (both .1) ds k)
 
   fits-choices : (f : Form) → form-fits L f ≡ true → every (every (fits L)) (choices f) ≡ true
-  fits-choices (all-of ls) h = every-map (every (fits L)) (λ l. l ∷ []) ls (every-from (fits L) (λ l. every (fits L) (l ∷ [])) (λ l k. and-from (fits L l) true k refl) ls h)
+  fits-choices (all-of ls) h = every-map (every (fits L)) (λ l. l ∷ []) ls (every-weaker (fits L) (λ l. every (fits L) (l ∷ [])) (λ l k. and-from (fits L l) true k refl) ls h)
   fits-choices (any-of ls) h = and-from (every (fits L) ls) true h refl
 
   pub product-fits : (fs : List Form) → every (form-fits L) fs ≡ true → every (every (fits L)) (distributed fs) ≡ true
@@ -117,7 +100,7 @@ module _ (L : ℕ) where
         record {
           few = few .0;
           numbers =
-              every-from (fits L) (λ l. ltb (number l) (2 ^ 31))
+              every-weaker (fits L) (λ l. ltb (number l) (2 ^ 31))
               (λ l k. lt-ltb _ _ (omega (arith, leb-true (number l) L (and-parts (leb 1 (number l)) (leb (number l) L) k .1))))
               (own-literals p) (ap (every (fits L)) (sym (members-held p)) ∙ both .0);
         },

@@ -10,17 +10,13 @@ use lib.IntN.{ℤ, pos}
 use lib.ListN.{length, take, getD, set}
 use Rattle.std.proofs.shelf.Lists.{getD-map, getD-take, take-more, take-more-set, length-map}
 use Rattle.std.proofs.shelf.Tests.{and-parts, ltb-true}
+use Rattle.formula.proofs.Tests.{every-at}
 use Rattle.formula.specs.Boolean.{number}
 use Rattle.formula.specs.Tests.{every}
 use Rattle.mapping.specs.Forms.{shifted}
 use Rattle.translator.specs.declared.placed.PlacedForm.{PlacedForm}
 use Rattle.translator.specs.Placed.{own-literals, Few, Small}
 use Rattle.translator.proofs.Held.{held-count}
-
-pub every-at : {X : Type 0} (test : X → Bool) (xs : List X) (i : ℕ) (d : X) → i < length xs → every test xs ≡ true → test (getD xs i d) ≡ true
-every-at test [] i d within h = absurd (omega arith)
-every-at test (x ∷ xs) zero d within h = and-parts (test x) (every test xs) h .0
-every-at test (x ∷ xs) (suc i) d within h = every-at test xs i d (omega arith) (and-parts (test x) (every test xs) h .1)
 
 pub own-at : (p : PlacedForm) (i : ℕ) → Few p → i < p .count → getD (own-literals p) i (pos 0) ≡ shifted (p .start) (getD (p .literals) i (pos 0))
 own-at p i few within =

@@ -16,7 +16,7 @@ use Rattle.formula.specs.Boolean.{Clause, number}
 use Rattle.formula.specs.Tests.{every}
 use Rattle.mapping.specs.Forms.{shifted}
 use Rattle.std.proofs.shelf.Tests.{ltb-true}
-use Rattle.translator.proofs.Literals.{every-at}
+use Rattle.formula.proofs.Tests.{every-at}
 use Rattle.store.specs.Stores.{Terms, Contents, put-answer, after-put, appended}
 use Rattle.store.specs.declared.StoreFault.{StoreFault}
 use Rattle.translator.specs.Filing.{with-all}

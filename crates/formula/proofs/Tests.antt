@@ -2,11 +2,11 @@
 use mathlib.Core.Path.{_≡_, refl, ap₂}
 use mathlib.Core.Bool.{Bool, true}
 use mathlib.Core.List.{List, [], _∷_, _++_, map}
-use Prim.Native.Nat.{ℕ, _+_}
+use Prim.Native.Nat.{ℕ, zero, suc, _+_, _<_}
 use native.Mathlib.Omega.{arith}
-use lib.ListN.{length}
+use lib.ListN.{length, getD}
 use Rattle.std.proofs.shelf.Tests.{and-parts, and-from}
 use Rattle.formula.specs.Tests.{every, sum-of}
 
 module _ {X : Type 0} (p : X → Bool) where
   pub every-append : (xs ys : List X) → every p xs ≡ true → every p ys ≡ true → every p (xs ++ ys) ≡ true
@@ -30,6 +30,17 @@ module _ {X : Type 0} (p : X → Bool) where
   every-weaker q f (x ∷ xs) h =
       let parts = and-parts (p x) (every p xs) h in
       and-from (q x) (every q xs) (f x (parts .0)) (every-weaker q f xs (parts .1))
+
+  pub every-at : (xs : List X) (i : ℕ) (d : X) → i < length xs → every p xs ≡ true → p (getD xs i d) ≡ true
+  every-at [] i d within h = absurd (omega arith)
+  every-at (x ∷ xs) zero d within h = and-parts (p x) (every p xs) h .0
+  every-at (x ∷ xs) (suc i) d within h = every-at xs i d (omega arith) (and-parts (p x) (every p xs) h .1)
+
+  pub every-map : {Y : Type 0} (f : Y → X) (ys : List Y) → every (λ y. p (f y)) ys ≡ true → every p (map f ys) ≡ true
+  every-map f [] h = refl
+  every-map f (y ∷ ys) h =
+      let parts = and-parts (p (f y)) (every (λ z. p (f z)) ys) h in
+      and-from (p (f y)) (every p (map f ys)) (parts .0) (every-map f ys (parts .1))
 
   -- what is undone at each element is undone over the list
   pub map-back : {Y : Type 0} (f : X → Y) (g : Y → X) → ((x : X) → p x ≡ true → g (f x) ≡ x) → (xs : List X) → every p xs ≡ true → map g (map f xs) ≡ xs
