@@ -11,4 +11,4 @@ pub returns-then-not-is-digit : need.returns-then-not-is-digit
 returns-then-not-is-digit c = read-stop (c .args .field .now) _ _ (c .loop-byte .inv) (c .loop-byte-test .taken) (sym (c .if-not-is-digit .ensures tt))
 
 pub returns : need.returns
-returns c = read-all (c .args .field .now) _ _ (c .loop-byte .inv) (c .loop-byte-test .left) (omega (arith, eqb-false _ 0 (sym (c .if-is-empty .ensures tt)))) (c .if-field-gt-MOST-DIGITS .left)
+returns c = read-all (c .args .field .now) _ _ (c .loop-byte .inv) (c .loop-byte-test .left) (omega (arith, eqb-false _ 0 (sym (c .if-is-empty .ensures tt)))) (omega arith)

@@ -1,5 +1,6 @@
 use mathlib.Core.Path.{_≡_, _∙_}
 use Prim.Native.Nat.{_<_}
+use native.Mathlib.Omega.{arith}
 use lib.ListN.{length}
 use borrow.Author.Needs.{needs}
 use Rattle.std.proofs.shelf.Results.{made-weaker}
@@ -13,7 +14,7 @@ returns-in-len1-up c =
     let input = c .args .input .now in
     let some : 0 < length (c .as-slice .result .now) = search needs in
     made-weaker (c .translate-from .result) _ (λ v. vec-items v ≡ output input)
-    (λ v h. h ∙ output-some input (vec-items (c .in-Continue-lines .lines)) (c .as-slice .result .now) (c .if-input-gt-INPUT-BYTES .left) (c .in-Continue-lines .ensures tt) (c .as-slice .ensures .value) (c .first-item .result) some (c .first-item .is))
+    (λ v h. h ∙ output-some input (vec-items (c .in-Continue-lines .lines)) (c .as-slice .result .now) (omega arith) (c .in-Continue-lines .ensures tt) (c .as-slice .ensures .value) (c .first-item .result) some (c .first-item .is))
     (c .translate-from .ensures)
 
 pub returns : need.returns
@@ -21,5 +22,5 @@ returns c =
     let input = c .args .input .now in
     let none : length (c .as-slice .result .now) < 1 = search needs in
     made-weaker (c .refuse-text-in-empty .result) _ (λ v. vec-items v ≡ output input)
-    (λ v h. h ∙ output-none input (vec-items (c .in-Continue-lines .lines)) (c .as-slice .result .now) (c .if-input-gt-INPUT-BYTES .left) (c .in-Continue-lines .ensures tt) (c .as-slice .ensures .value) none)
+    (λ v h. h ∙ output-none input (vec-items (c .in-Continue-lines .lines)) (c .as-slice .result .now) (omega arith) (c .in-Continue-lines .ensures tt) (c .as-slice .ensures .value) none)
     (c .refuse-text-in-empty .ensures)
