@@ -87,12 +87,20 @@ fn made(heap: Global, row: &[Call]) -> Result<Vec<u8>, AllocError> {
     let mut answers = vec![in heap; Answer::Number(0); row.len()]?;
     match make_row(1, FullRegular, store, sheet, row, answers.as_mut_slice()) {
         Err(parts) => {
-            let Parts { mapping: _, store: _, sheet: _ } = parts;
+            let Parts {
+                mapping: _,
+                store: _,
+                sheet: _,
+            } = parts;
         }
         Ok(row) => {
             let Row { workbook, clauses } = row;
             let booleans = workbook.booleans() as i64;
-            let Parts { mapping: _, store, sheet: _ } = workbook.finish();
+            let Parts {
+                mapping: _,
+                store,
+                sheet: _,
+            } = workbook.finish();
             put_refusals(&mut all, answers.as_slice());
             put_header(&mut all, booleans, i64::try_from(clauses).unwrap_or(0));
             put_all(&mut all, store.held());
@@ -119,10 +127,42 @@ enum Step {
 }
 
 static ROWS: [[Step; 7]; 4] = [
-    [Step::Size(1, 2), Step::Literals(256, 16), Step::Literals(1, 1), Step::Literals(1, 0), Step::Literals(1, 16), Step::Size(1, 2), Step::Literals(1, 17)],
-    [Step::Size(1, 2), Step::Literals(255, 16), Step::Literals(1, 15), Step::Literals(1, 2), Step::Literals(1, 1), Step::Literals(1, 1), Step::Literals(1, 0)],
-    [Step::Size(1, 2), Step::Literals(1022, 4), Step::Literals(1, 9), Step::Size(1, 2), Step::Literals(1, 8), Step::Literals(1, 8), Step::Size(1, 1)],
-    [Step::Size(255, 64), Step::Literals(300, 1), Step::Size(1, 64), Step::Literals(469, 0), Step::Literals(1, 0), Step::Size(1, 2), Step::Literals(1, 17)],
+    [
+        Step::Size(1, 2),
+        Step::Literals(256, 16),
+        Step::Literals(1, 1),
+        Step::Literals(1, 0),
+        Step::Literals(1, 16),
+        Step::Size(1, 2),
+        Step::Literals(1, 17),
+    ],
+    [
+        Step::Size(1, 2),
+        Step::Literals(255, 16),
+        Step::Literals(1, 15),
+        Step::Literals(1, 2),
+        Step::Literals(1, 1),
+        Step::Literals(1, 1),
+        Step::Literals(1, 0),
+    ],
+    [
+        Step::Size(1, 2),
+        Step::Literals(1022, 4),
+        Step::Literals(1, 9),
+        Step::Size(1, 2),
+        Step::Literals(1, 8),
+        Step::Literals(1, 8),
+        Step::Size(1, 1),
+    ],
+    [
+        Step::Size(255, 64),
+        Step::Literals(300, 1),
+        Step::Size(1, 64),
+        Step::Literals(469, 0),
+        Step::Literals(1, 0),
+        Step::Size(1, 2),
+        Step::Literals(1, 17),
+    ],
 ];
 
 // The calls of the steps, whose clauses are the front of one.
@@ -131,7 +171,10 @@ fn row_of<'a>(heap: Global, steps: &[Step], clause: &'a [Literal]) -> Vec<Call<'
     for step in steps {
         let (times, call) = match *step {
             Step::Size(times, size) => (times, Call::Declare(size)),
-            Step::Literals(times, count) => (times, Call::State(clause.get(..count).unwrap_or(clause))),
+            Step::Literals(times, count) => (
+                times,
+                Call::State(clause.get(..count).unwrap_or(clause)),
+            ),
         };
         for _ in 0..times {
             put(&mut row, call);

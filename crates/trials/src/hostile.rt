@@ -9,15 +9,112 @@ use crate::text::put;
 use crate::text::put_all;
 
 // Where a line is put.
-const SHEETS: [&str; 6] = ["%", "%~", "m FR~%", "m FR~%~d 3~", "m FR~d 3~d 2~%~s +1:2 -2:1~%~s +2:2~", "%~m FR~d 3~s +1:1~"];
+const SHEETS: [&str; 6] = [
+    "%",
+    "%~",
+    "m FR~%",
+    "m FR~%~d 3~",
+    "m FR~d 3~d 2~%~s +1:2 -2:1~%~s +2:2~",
+    "%~m FR~d 3~s +1:1~",
+];
 
 static LINES: [&str; 96] = [
-    "", " ", "  ", "\t", "\r", "\0", "\0\0\0", "~", "m", "m ", "m FR", "m FR ", "m  FR", " m FR", "m FR\r", "m FR\0", "m\tFR", "m fr", "m Fr", "m FRR",
-    "m F", "m R", "m RF", "m S", "m FL", "mFR", "M FR", "FR", "mm FR", "m FR FR", "m FR d 3", "d", "d ", "d 3", "d 3 ", "d  3", " d 3", "d 3 3", "d3",
-    "D 3", "d\t3", "d 3\r", "d 3\0", "d +3", "d -3", "d 3.", "d x", "d 00003", "d 000003", "d 99999", "d 100000", "d 0", "d 00000", "d 1", "d 65",
-    "d \u{663}", "dd 3", "d 3d", "d d", "s", "s ", "s  ", " s", "S", "s\r", "s\0", "ss", "s s", "s +1:2", "s +1:2 ", "s  +1:2", "s +1:2  -2:1", "s+1:2",
-    "s +1:", "s +:2", "s +", "s -", "s 1:2", "s +1 2", "s +12", "s +1::2", "s +1:2:1", "s ++1:2", "s +-1:2", "s + 1:2", "s +1: 2", "s +1 :2",
-    "s +1:2\r", "s +1:2\t", "s +1:2 x", "s +000001:2", "s +1:000002", "s +00001:00002", "s +1:-2", "s +1:2,-2:1", "\u{e9}\u{ff}\u{20ac}",
+    "",
+    " ",
+    "  ",
+    "\t",
+    "\r",
+    "\0",
+    "\0\0\0",
+    "~",
+    "m",
+    "m ",
+    "m FR",
+    "m FR ",
+    "m  FR",
+    " m FR",
+    "m FR\r",
+    "m FR\0",
+    "m\tFR",
+    "m fr",
+    "m Fr",
+    "m FRR",
+    "m F",
+    "m R",
+    "m RF",
+    "m S",
+    "m FL",
+    "mFR",
+    "M FR",
+    "FR",
+    "mm FR",
+    "m FR FR",
+    "m FR d 3",
+    "d",
+    "d ",
+    "d 3",
+    "d 3 ",
+    "d  3",
+    " d 3",
+    "d 3 3",
+    "d3",
+    "D 3",
+    "d\t3",
+    "d 3\r",
+    "d 3\0",
+    "d +3",
+    "d -3",
+    "d 3.",
+    "d x",
+    "d 00003",
+    "d 000003",
+    "d 99999",
+    "d 100000",
+    "d 0",
+    "d 00000",
+    "d 1",
+    "d 65",
+    "d \u{663}",
+    "dd 3",
+    "d 3d",
+    "d d",
+    "s",
+    "s ",
+    "s  ",
+    " s",
+    "S",
+    "s\r",
+    "s\0",
+    "ss",
+    "s s",
+    "s +1:2",
+    "s +1:2 ",
+    "s  +1:2",
+    "s +1:2  -2:1",
+    "s+1:2",
+    "s +1:",
+    "s +:2",
+    "s +",
+    "s -",
+    "s 1:2",
+    "s +1 2",
+    "s +12",
+    "s +1::2",
+    "s +1:2:1",
+    "s ++1:2",
+    "s +-1:2",
+    "s + 1:2",
+    "s +1: 2",
+    "s +1 :2",
+    "s +1:2\r",
+    "s +1:2\t",
+    "s +1:2 x",
+    "s +000001:2",
+    "s +1:000002",
+    "s +00001:00002",
+    "s +1:-2",
+    "s +1:2,-2:1",
+    "\u{e9}\u{ff}\u{20ac}",
 ];
 
 fn lines() -> &'static [&'static str] {
@@ -40,7 +137,17 @@ pub fn try_lines(tally: &mut Tally) {
 
 const FRONTS: [&str; 4] = ["", "m FR~", "m FR~s", "m FR~d 3~s -1:2"];
 
-const FILLERS: [&str; 9] = ["~", "s~", "d 2~", "x", "\0", " ", " +1:1", " +1:2 -1:3", "m FR~"];
+const FILLERS: [&str; 9] = [
+    "~",
+    "s~",
+    "d 2~",
+    "x",
+    "\0",
+    " ",
+    " +1:1",
+    " +1:2 -1:3",
+    "m FR~",
+];
 
 const LENGTHS: [usize; 8] = [0, 1, 4, 5, 100, 16383, 16384, 16385];
 
@@ -89,7 +196,11 @@ pub fn try_changes(tally: &mut Tally) {
 // Adds bytes at random, or if not wild only of those that lines are made of and a few others.
 fn put_junk(text: &mut Vec<u8>, random: &mut Random, wild: bool) {
     for _ in 0..random.below(80) {
-        let byte = if wild { (random.below(256) & 255) as u8 } else { any_byte(random) };
+        let byte = if wild {
+            (random.below(256) & 255) as u8
+        } else {
+            any_byte(random)
+        };
         put(text, byte);
     }
 }
@@ -98,7 +209,11 @@ fn put_junk(text: &mut Vec<u8>, random: &mut Random, wild: bool) {
 pub fn try_junk(tally: &mut Tally, maker: &mut Maker, rounds: u64) {
     for round in 0..rounds {
         tally.input.clear();
-        put_pattern(&mut tally.input, if round % 4 == 0 { "" } else { "m FR~d 3~" }, "");
+        put_pattern(
+            &mut tally.input,
+            if round % 4 == 0 { "" } else { "m FR~d 3~" },
+            "",
+        );
         put_junk(&mut tally.input, &mut maker.random, round % 8 == 1);
         tally.run();
     }

@@ -20,6 +20,7 @@ mod tables;
 mod tally;
 mod text;
 mod wanted;
+
 use making::Maker;
 use std::io;
 use std::io::Write;

@@ -82,7 +82,9 @@ impl Maker {
     }
 
     fn put_size(&mut self, text: &mut Vec<u8>, kind: &Kind) {
-        let most = kind.booleans.saturating_sub(self.booleans).saturating_add(1);
+        let most = kind.booleans
+            .saturating_sub(self.booleans)
+            .saturating_add(1);
         let size = put_choice(&mut self.random, text, 2, kind.size.min(most));
         if size > 1 && size < 65 {
             put(&mut self.sizes, size);
@@ -95,7 +97,10 @@ impl Maker {
         let variables = self.sizes.len() as u64;
         let variable = put_choice(&mut self.random, text, 1, variables) as usize;
         put(text, b':');
-        let size = self.sizes.get(variable.saturating_sub(1)).copied().unwrap_or(3);
+        let size = self.sizes
+            .get(variable.saturating_sub(1))
+            .copied()
+            .unwrap_or(3);
         put_choice(&mut self.random, text, 1, size);
     }
 
@@ -117,7 +122,14 @@ impl Maker {
         self.sizes.clear();
         self.booleans = 0;
         text.clear();
-        put_all(text, if self.random.once_in(50) { b"m F" } else { b"m FR" });
+        put_all(
+            text,
+            if self.random.once_in(50) {
+                b"m F"
+            } else {
+                b"m FR"
+            },
+        );
         for _ in 0..self.random.below(kind.lines) {
             put(text, b'\n');
             let start = text.len();

@@ -58,7 +58,14 @@ fn put_axioms(words: &mut Vec<i64>, variable: Variable) {
 // Of a plus literal the bound that there is, or of two the one that is asked for; of a minus literal every bound's opposite.
 fn put_choice(words: &mut Vec<i64>, plus: bool, [low, high]: [i64; 2], later: bool) {
     if plus {
-        put(words, if low == 0 || high != 0 && later { high } else { low });
+        put(
+            words,
+            if low == 0 || high != 0 && later {
+                high
+            } else {
+                low
+            },
+        );
         return;
     }
     if low != 0 {
@@ -208,7 +215,12 @@ impl Sheet {
                     digit = digit.saturating_sub(1);
                 }
                 let bounds = self.bounds(literal);
-                put_choice(&mut self.words, literal.plus, bounds, turn.wrapping_shr(digit) % 2 == 1);
+                put_choice(
+                    &mut self.words,
+                    literal.plus,
+                    bounds,
+                    turn.wrapping_shr(digit) % 2 == 1,
+                );
             }
             put(&mut self.words, 0);
         }

@@ -79,9 +79,24 @@ impl Tally {
     // Notes the input at hand, and both outputs from shortly before they differ.
     fn note(&mut self) {
         let start = difference(self.wanted.as_slice(), self.made.as_slice()).saturating_sub(100);
-        put_part(&mut self.difference, "  input:\n    ", self.input.as_slice(), 0);
-        put_part(&mut self.difference, "\n  wanted, near the first difference:\n    ", self.wanted.as_slice(), start);
-        put_part(&mut self.difference, "\n  made:\n    ", self.made.as_slice(), start);
+        put_part(
+            &mut self.difference,
+            "  input:\n    ",
+            self.input.as_slice(),
+            0,
+        );
+        put_part(
+            &mut self.difference,
+            "\n  wanted, near the first difference:\n    ",
+            self.wanted.as_slice(),
+            start,
+        );
+        put_part(
+            &mut self.difference,
+            "\n  made:\n    ",
+            self.made.as_slice(),
+            start,
+        );
         put(&mut self.difference, b'\n');
     }
 
@@ -124,7 +139,11 @@ impl Tally {
 
     // Reports whether all agree.
     pub fn finish(&mut self) {
-        let all = if self.fails { "DISAGREE\n" } else { "all agree\n" };
+        let all = if self.fails {
+            "DISAGREE\n"
+        } else {
+            "all agree\n"
+        };
         put_all(&mut self.report, all.as_bytes());
     }
 }

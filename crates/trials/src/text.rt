@@ -7,7 +7,18 @@ pub fn put_all(text: &mut Vec<u8>, more: &[u8]) {
     let _ = text.extend_from_slice(more);
 }
 
-const POWERS: [u64; 10] = [1_000_000_000, 100_000_000, 10_000_000, 1_000_000, 100_000, 10_000, 1_000, 100, 10, 1];
+const POWERS: [u64; 10] = [
+    1_000_000_000,
+    100_000_000,
+    10_000_000,
+    1_000_000,
+    100_000,
+    10_000,
+    1_000,
+    100,
+    10,
+    1,
+];
 
 // A number of at most ten digits in decimal.
 pub fn put_number(text: &mut Vec<u8>, number: i64) {
