@@ -1,4 +1,6 @@
 // The worked cases: what the definitions come to, computed.
+#![tactic(auto)]
+
 ghost use Rattle.std.specs.Prelude.{◌≡◌};
 ghost use Rattle.cases.specs.Table.{table};
 

@@ -1,4 +1,6 @@
 // The mappings from sized variables to Booleans.
+#![tactic(auto)]
+
 pub mod full_regular;
 mod literals;
 pub mod names;

@@ -1,4 +1,6 @@
 // What is said: signed literals over finite choices, the Boolean clauses that stand for them, and refusals.
+#![tactic(auto)]
+
 pub mod refusals;
 pub mod signed;
 

@@ -1,4 +1,6 @@
 // What a mapping from sized variables to Booleans means, and what code may ask of one.
+#![tactic(auto)]
+
 ghost use Rattle.std.specs.Prelude.{◌≡◌};
 ghost use Rattle.mapping.specs.Forms.{members, shape_of};
 ghost use Rattle.mapping.specs.Meanings.{Meaning, Lawful};

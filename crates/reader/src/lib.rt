@@ -1,4 +1,6 @@
 // Makes the calls of a text's lines as one row, and writes what the program prints.
+#![tactic(auto)]
+
 pub mod faults;
 mod printing;
 pub mod program;

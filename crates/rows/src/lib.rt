@@ -1,4 +1,6 @@
 // A row of calls on a new workbook.
+#![tactic(auto)]
+
 ghost use Rattle.std.specs.Prelude.{◌≡◌, ◌<◌, ◌≤◌, map, length, MatchResult};
 ghost use Rattle.mapping.specs.Memory.{over};
 ghost use Rattle.rows.specs.Rows.{step_of, answer_to, answer_of, after_step, row_answers, after_row, Done};

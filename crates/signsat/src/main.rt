@@ -1,4 +1,6 @@
 // signsat: reads a text of at most 16,384 bytes from standard input and prints its translation.
+#![tactic(auto)]
+
 ghost use Rattle.std.specs.Prelude.{◌≤◌, length, IfOk};
 
 use reader::{INPUT_BYTES, translate_text};

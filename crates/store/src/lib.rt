@@ -1,4 +1,6 @@
 // What a clause store means, and what code may ask of one.
+#![tactic(auto)]
+
 ghost use Rattle.std.specs.Prelude.{◌≡◌, ℕ, List, length};
 ghost use Rattle.formula.specs.Boolean.{words_of};
 ghost use Rattle.store.specs.Faults.{refusal_of};

@@ -1,4 +1,6 @@
 // A clause store whose buffer holds its clauses as text.
+#![tactic(auto)]
+
 mod fitting;
 mod scanning;
 mod text_store;

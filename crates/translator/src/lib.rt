@@ -1,4 +1,6 @@
 // Stores what an entry of a sheet is translated to, all of it or nothing, in any store and under any mapping.
+#![tactic(auto)]
+
 pub mod axioms;
 pub mod clauses;
 mod placed;

@@ -6,6 +6,8 @@
 // - at every limit, where the front of the output is written out too, and at limits that no input reaches by rows of calls;
 // - on input that means harm: lines that are none, changed bytes, lengths at the limit, junk;
 // - without a line that was refused: nothing else may change.
+#![tactic(auto)]
+
 mod boundaries;
 mod calls;
 mod hostile;

@@ -1,4 +1,6 @@
 // A workbook: a sheet of variables and clauses, and the store that holds its translation.
+#![tactic(auto)]
+
 pub mod book;
 pub mod faults;
 pub mod sheet;
