@@ -5,8 +5,8 @@ use Rattle.text_store.proofs.scanning.last_piece.Goals as goal
 pub loop-start-init : goal.loop-start-init
 loop-start-init c = piece_none c.args.mark c.args.bound c.args.bytes.now c.requires.closed c.requires.some c.requires.low
 
-pub overflow-add-lows : goal.overflow-add-lows
-overflow-add-lows c = let h = piece_within c.args.mark c.args.bound c.args.bytes.now c.loop-start.start c.loop-start.lows c.loop-start.invariant in search rules
+pub overflow_add-lows : goal.overflow_add-lows
+overflow_add-lows c = let h = piece_within c.args.mark c.args.bound c.args.bytes.now c.loop-start.start c.loop-start.lows c.loop-start.invariant in search rules
 
 pub loop-start-preserved-then-bytes-start-2 : goal.loop-start-preserved-then-bytes-start-2
 loop-start-preserved-then-bytes-start-2 c =

@@ -9,8 +9,8 @@ use Rattle.text_store.proofs.writing.write_literals.Goals as goal
 pub loop-literal-init : goal.loop-literal-init
 loop-literal-init c = wrote_none c.args.at c.args.out.now
 
-pub write-literal-end-requires : goal.write-literal-end-requires
-write-literal-end-requires c =
+pub write_literal-end-requires : goal.write_literal-end-requires
+write_literal-end-requires c =
     let l = get_or c.args.literals.now c.loop-literal.literal-index (pos 0) in
     let fit : SFits w32 l = search rules in
     let more = joined_step text_literal c.args.literals.now c.loop-literal.literal-index (pos 0) c.loop-literal-test.true in
@@ -22,7 +22,7 @@ loop-literal-preserved c =
     let l = get_or c.args.literals.now c.loop-literal.literal-index (pos 0) in
     let fit : SFits w32 l = search rules in
     rw (joined_step text_literal c.args.literals.now c.loop-literal.literal-index (pos 0) c.loop-literal-test.true)
-    (wrote_then (omega arith) c.loop-literal.invariant (rw (to_z-of_z w32 l fit) at c.write-literal-end.ensures))
+    (wrote_then (omega arith) c.loop-literal.invariant (rw (to_z-of_z w32 l fit) at c.write_literal-end.ensures))
 
 pub returns : goal.returns
 returns c = rw (take_all c.loop-literal.literal-index c.args.literals.now c.loop-literal-test.false) at c.loop-literal.invariant

@@ -6,7 +6,7 @@ use Rattle.translator.specs.Words.{shifted_word}
 use Rattle.translator.proofs.Rooms.{never_ok}
 use Rattle.translator.proofs.Worded.{Going, part, put_ok, going_end, going_on, going_all, moved_small, shifted_literal}
 use Rattle.translator.proofs.axioms.put_words.Goals as goal
-use Rattle.translator.proofs.axioms.put_words.Goals.{then-words-i-eq0+in-ok-put, else-words-i-eq0}
+use Rattle.translator.proofs.axioms.put_words.Goals.{then-words-i-eq0+in_ok-put, else-words-i-eq0}
 
 -- a part that is lent and comes back as it was
 lent_back : {X : Type 0} (a k : ℕ) (xs ys : List X) → ys ≡ take k (drop a xs) → put_mid a k xs ys ≡ xs
@@ -17,14 +17,14 @@ lent_back a k xs ys same =
 zero_word : (z : ℤ) → SFits w32 z → of_z w32 z ≡ 0 → z ≡ pos 0
 zero_word z fits e = sym (to_z-of_z w32 z fits) ∙ ap (to_z w32) e
 
-pub returns-in-err-put : goal.returns-in-err-put
-returns-in-err-put g c =
+pub returns-in_err-put : goal.returns-in_err-put
+returns-in_err-put g c =
     let fits : SFits w32 (get_or c.loop-i.words c.loop-i.i (pos 0)) = search rules in
     let T = g.S.Store.terms c.args.store.now in
     let h = c.loop-i.invariant in
     let within : c.loop-i.i < length c.loop-i.words = omega (arith, h.long) in
     let ends = zero_word _ fits c.if-words-i-eq0.true in
-    never_ok _ tt (sym c.in-err-put.was ∙ put_ok T _ _ _ _ _ _ _ _ h within ends _ _ (part T _ _ _ _ _ _ _ _ h within) c.put.ensures.answer)
+    never_ok _ tt (sym c.in_err-put.was ∙ put_ok T _ _ _ _ _ _ _ _ h within ends _ _ (part T _ _ _ _ _ _ _ _ h within) c.put.ensures.answer)
 
 pub shift-requires : goal.shift-requires
 shift-requires g c =
@@ -43,7 +43,7 @@ loop-i-preserved g c =
     let within : i < length ws = omega (arith, h.long) in
     let fits : SFits w32 (get_or ws i (pos 0)) = search rules in
     elim c.if-words-i-eq0.branch [
-      | then-words-i-eq0+in-ok-put w ↦
+      | then-words-i-eq0+in_ok-put w ↦
           let said = w.put.ensures in
           subst (λ (n : ℕ). Going T K c.args.start c.args.words.now (S.terms c.if-words-i-eq0.store) (S.contents c.if-words-i-eq0.store) c.if-words-i-eq0.words n (i + 1)) (sym w.begin-is)
           (going_end T K _ _ _ _ _ _ _ h within (zero_word _ fits w.if-words-i-eq0.true) _ _ _ _ _ (part T K _ _ _ _ _ _ _ h within) said.answer

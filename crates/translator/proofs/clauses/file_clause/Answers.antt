@@ -13,9 +13,9 @@ returns g c =
     let ps = c.args.places.now in
     let ls = c.args.literals.now in
     let few : ls ≡ take 16 ls = sym (take_all 16 ls (omega arith)) in
-    let said = c.file-forms-2.ensures in
+    let said = c.file_forms-2.ensures in
     record {
-      answer = subst (λ (xs : List Literal). c.file-forms-2.result ≡ clause_answer M T K ps xs) few said.answer;
-      after = subst (λ (xs : List Literal). g.S.Store.contents c.file-forms-2.new.store ≡ after_all c.file-forms-2.result T K (placed_clause M ps xs)) few said.after;
+      answer = subst (λ (xs : List Literal). c.file_forms-2.result ≡ clause_answer M T K ps xs) few said.answer;
+      after = subst (λ (xs : List Literal). g.S.Store.contents c.file_forms-2.new.store ≡ after_all c.file_forms-2.result T K (placed_clause M ps xs)) few said.after;
       same = said.same;
     }

@@ -37,21 +37,21 @@ asked T K M ps ls forms h n answer loaded few within highest counted said = reco
   said = said;
 }
 
-pub put-product-requires : goal.put-product-requires
-put-product-requires g c =
-    let ask = asked (g.S.Store.terms c.args.store.now) (g.S.Store.contents c.args.store.now) g.M.Mapping.meaning _ _ _ _ _ _ c.load-forms.ensures.forms c.load-forms.ensures.few c.requires c.find-reach.ensures c.count-words.ensures c.check-room.ensures in
-    ready _ _ _ _ _ _ _ _ _ ask g.met.M.Mapping.lawful (g.S.Store.laws c.args.store.now) _ c.in-ok-check-room.was _
+pub put_product-requires : goal.put_product-requires
+put_product-requires g c =
+    let ask = asked (g.S.Store.terms c.args.store.now) (g.S.Store.contents c.args.store.now) g.M.Mapping.meaning _ _ _ _ _ _ c.load_forms.ensures.forms c.load_forms.ensures.few c.requires c.find_reach.ensures c.count_words.ensures c.check_room.ensures in
+    ready _ _ _ _ _ _ _ _ _ ask g.met.M.Mapping.lawful (g.S.Store.laws c.args.store.now) _ c.in_ok-check_room.was _
 
-pub returns-in-err-check-room : goal.returns-in-err-check-room
-returns-in-err-check-room g c =
-    let ask = asked (g.S.Store.terms c.args.store.now) (g.S.Store.contents c.args.store.now) g.M.Mapping.meaning _ _ _ _ _ _ c.load-forms.ensures.forms c.load-forms.ensures.few c.requires c.find-reach.ensures c.count-words.ensures c.check-room.ensures in
-    let p = err_from_is_err_and c.from-residual.result c.from-residual.ensures.1 in
-    let done = refused _ _ _ _ _ _ _ _ _ ask c.from-residual.result _ (p.1 ∙ ap Err p.2) c.in-err-check-room.was in
+pub returns-in_err-check_room : goal.returns-in_err-check_room
+returns-in_err-check_room g c =
+    let ask = asked (g.S.Store.terms c.args.store.now) (g.S.Store.contents c.args.store.now) g.M.Mapping.meaning _ _ _ _ _ _ c.load_forms.ensures.forms c.load_forms.ensures.few c.requires c.find_reach.ensures c.count_words.ensures c.check_room.ensures in
+    let p = err_from_is_err_and c.from_residual.result c.from_residual.ensures.1 in
+    let done = refused _ _ _ _ _ _ _ _ _ ask c.from_residual.result _ (p.1 ∙ ap Err p.2) c.in_err-check_room.was in
     record { answer = done.0; after = done.1; same = refl }
 
 pub returns : goal.returns
 returns g c =
-    let ask = asked (g.S.Store.terms c.args.store.now) (g.S.Store.contents c.args.store.now) g.M.Mapping.meaning _ _ _ _ _ _ c.load-forms.ensures.forms c.load-forms.ensures.few c.requires c.find-reach.ensures c.count-words.ensures c.check-room.ensures in
-    let said = c.put-product.ensures in
-    let done = stored _ _ _ _ _ _ _ _ _ ask c.put-product.result _ _ [] c.in-ok-check-room.was said.answer said.after in
+    let ask = asked (g.S.Store.terms c.args.store.now) (g.S.Store.contents c.args.store.now) g.M.Mapping.meaning _ _ _ _ _ _ c.load_forms.ensures.forms c.load_forms.ensures.few c.requires c.find_reach.ensures c.count_words.ensures c.check_room.ensures in
+    let said = c.put_product.ensures in
+    let done = stored _ _ _ _ _ _ _ _ _ ask c.put_product.result _ _ [] c.in_ok-check_room.was said.answer said.after in
     record { answer = done.0; after = done.1; same = said.same }

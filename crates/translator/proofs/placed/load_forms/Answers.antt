@@ -8,8 +8,8 @@ use Rattle.translator.proofs.placed.load_forms.Goals as goal
 
 pub loop-i-preserved : goal.loop-i-preserved
 loop-i-preserved g c = (
-  mapped_more form_in (form_at g.M.Mapping.meaning c.args.places.now) c.loop-i.forms c.args.literals.now c.loop-i.i _ _ (omega arith) (omega arith) c.loop-i.invariant.0 c.load-form.ensures.form,
-  all_more_set Few c.loop-i.forms c.loop-i.i _ (omega arith) c.loop-i.invariant.1 c.load-form.ensures.few,
+  mapped_more form_in (form_at g.M.Mapping.meaning c.args.places.now) c.loop-i.forms c.args.literals.now c.loop-i.i _ _ (omega arith) (omega arith) c.loop-i.invariant.0 c.load_form.ensures.form,
+  all_more_set Few c.loop-i.forms c.loop-i.i _ (omega arith) c.loop-i.invariant.1 c.load_form.ensures.few,
   length-set c.loop-i.forms _ _ ∙ c.loop-i.invariant.2,
 )
 

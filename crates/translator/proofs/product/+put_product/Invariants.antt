@@ -2,7 +2,7 @@ use Rattle.std.proofs.Common.{length}
 use Rattle.translator.proofs.Products.{Going}
 use Rattle.translator.proofs.product.+put_product.Given as goal
 
-abbrev pub decreases-put-product : goal.decreases-put-product
+abbrev pub decreases-put-product : goal.decreases-put_product
 decreases-put-product g l = length l.forms.now
 
 abbrev pub invariant-loop-i : goal.invariant-loop-i

@@ -10,9 +10,9 @@ loop-i-preserved c =
     let long = held_count c.args.form.now c.requires.0.few in
     let front = c.loop-i.front in
     let i = c.loop-i.i in (
-      ap (take (c.args.at + (i + 1))) c.put-literal.ensures
+      ap (take (c.args.at + (i + 1))) c.put_literal.ensures
           ∙ copied_more front c.args.at i (take c.args.at c.args.front.now) (own_literals c.args.form.now) (pos 0) c.loop-i.invariant.0 (omega arith) (omega arith),
-      ap length c.put-literal.ensures ∙ length-set front _ _ ∙ c.loop-i.invariant.1,
+      ap length c.put_literal.ensures ∙ length-set front _ _ ∙ c.loop-i.invariant.1,
     )
 
 pub returns : goal.returns

@@ -9,10 +9,10 @@ use Rattle.encodings.specs.Rows.{row_refused}
 use Rattle.encodings.proofs.full_regular.FullRegularMapping.reading.Goals as goal
 use Rattle.encodings.proofs.full_regular.FullRegularMapping.reading.Goals.{then-not-in-sizes-via-then-not-in-sizes, then-not-in-sizes-via-else-not-in-sizes+then-bits-size, in-0, in-1}
 
-pub returns-then-not-in-sizes : goal.returns-then-not-in-sizes
-returns-then-not-in-sizes c =
-    elim c.then-not-in-sizes.branch [
-      | then-not-in-sizes-via-then-not-in-sizes w ↦ sym (reading_no_size full_regular_within c.args.size c.args.bits.now (sym w.if-not-in-sizes.ensures))
+pub returns-then-not-in_sizes : goal.returns-then-not-in_sizes
+returns-then-not-in_sizes c =
+    elim c.then-not-in_sizes.branch [
+      | then-not-in-sizes-via-then-not-in-sizes w ↦ sym (reading_no_size full_regular_within c.args.size c.args.bits.now (sym w.if-not-in_sizes.ensures))
       | then-not-in-sizes-via-else-not-in-sizes+then-bits-size w ↦
           sym (reading_no_row full_regular_within c.args.size c.args.bits.now (row_refused _ c.args.bits.now w.if-bits-size.true))
     ]
@@ -26,18 +26,18 @@ loop-bit-preserved c =
           (omega arith, scan_one _ _ _ _ c.loop-bit-test.true _ _ w.in-1.is w.if-falling.true w.falling-is v ∙ c.loop-bit.invariant.1)
     ]
 
-pub returns-in-default : goal.returns-in-default
-returns-in-default c =
-    sym (reading_scanned _ c.args.bits.now (sym c.if-not-in-sizes.ensures) c.if-bits-size.false ∙
+pub returns-in_default : goal.returns-in_default
+returns-in_default c =
+    sym (reading_scanned _ c.args.bits.now (sym c.if-not-in_sizes.ensures) c.if-bits-size.false ∙
     (sym c.loop-bit.invariant.1 ∙ scan_late _ _ _ _ c.loop-bit-test.true c.in-1.is c.if-falling.false))
 
-pub returns-in-default·2 : goal.returns-in-default·2
-returns-in-default·2 c =
+pub returns-in_default-2 : goal.returns-in_default-2
+returns-in_default-2 c =
     let big : 1 < get_or c.args.bits.now c.loop-bit.bit-index 0 = omega arith in
-    sym (reading_scanned _ c.args.bits.now (sym c.if-not-in-sizes.ensures) c.if-bits-size.false ∙
+    sym (reading_scanned _ c.args.bits.now (sym c.if-not-in_sizes.ensures) c.if-bits-size.false ∙
     (sym c.loop-bit.invariant.1 ∙ scan_other _ _ _ _ c.loop-bit-test.true big))
 
 pub returns : goal.returns
 returns c =
-    sym (reading_scanned _ c.args.bits.now (sym c.if-not-in-sizes.ensures) c.if-bits-size.false ∙ (sym c.loop-bit.invariant.1 ∙
+    sym (reading_scanned _ c.args.bits.now (sym c.if-not-in_sizes.ensures) c.if-bits-size.false ∙ (sym c.loop-bit.invariant.1 ∙
     at_drop_all (scan c.loop-bit.falling c.loop-bit.value) c.args.bits.now c.loop-bit.bit-index c.loop-bit-test.false))

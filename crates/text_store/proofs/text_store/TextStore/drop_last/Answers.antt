@@ -4,31 +4,31 @@ use Rattle.text_store.proofs.Fronts.{fronted}
 use Rattle.text_store.proofs.Held.{held_closed, held_some, cut_words, cut_front, cut_contents}
 use Rattle.text_store.proofs.Legibility.{text_legible}
 use Rattle.text_store.proofs.text_store.TextStore.drop_last.Goals as goal
-use Rattle.text_store.proofs.text_store.TextStore.drop_last.Goals.{After-last-piece-last}
+use Rattle.text_store.proofs.text_store.TextStore.drop_last.Goals.{After-last_piece-last}
 
-piece : (c : After-last-piece-last) → PieceFrom 10 33 (take c.args.self.now.held (vec_items c.args.self.now.bytes)) c.last-piece-last.result.start c.last-piece-last.result.lows
-piece c = rw (c.held.ensures.text ∙ c.args.self.now.whole) at c.last-piece-last.ensures.piece
+piece : (c : After-last_piece-last) → PieceFrom 10 33 (take c.args.self.now.held (vec_items c.args.self.now.bytes)) c.last_piece-last.result.start c.last_piece-last.result.lows
+piece c = rw (c.held.ensures.text ∙ c.args.self.now.whole) at c.last_piece-last.ensures.piece
 
-before : (c : After-last-piece-last) → Closed 10 (take c.last-piece-last.result.start (take c.args.self.now.held (vec_items c.args.self.now.bytes)))
-before c = rw (c.held.ensures.text ∙ c.args.self.now.whole) at c.last-piece-last.ensures.before
+before : (c : After-last_piece-last) → Closed 10 (take c.last_piece-last.result.start (take c.args.self.now.held (vec_items c.args.self.now.bytes)))
+before c = rw (c.held.ensures.text ∙ c.args.self.now.whole) at c.last_piece-last.ensures.before
 
-pub last-piece-last-requires : goal.last-piece-last-requires
-last-piece-last-requires c =
+pub last_piece-last-requires : goal.last_piece-last-requires
+last_piece-last-requires c =
     let front = fronted c.args.self.now in
     rw (c.held.ensures.text ∙ c.args.self.now.whole) (record { closed = held_closed text_legible front; some = held_some text_legible front c.requires; low = lit< tt })
 
-pub overflow-sub-self : goal.overflow-sub-self
-overflow-sub-self c =
-    let at = (goal.at.overflow-sub-self c).After-last-piece-last in
+pub overflow_sub-self : goal.overflow_sub-self
+overflow_sub-self c =
+    let at = (goal.at.overflow_sub-self c).After-last_piece-last in
     cut_words text_legible (fronted c.args.self.now) _ _ c.requires (piece at) (before at)
 
-pub invariant-of-self : goal.invariant-of-self
-invariant-of-self c =
-    let at = (goal.at.invariant-of-self c).After-last-piece-last in
+pub invariant_of-self : goal.invariant_of-self
+invariant_of-self c =
+    let at = (goal.at.invariant_of-self c).After-last_piece-last in
     let front = cut_front text_legible (fronted c.args.self.now) _ _ c.requires (piece at) (before at) in
     (front.within, (front.text.whole, (front.text.fit_all, (front.text.words_are, (front.text.count_is, tt)))))
 
 pub returns : goal.returns
 returns c =
-    let at = (goal.at.returns c).After-last-piece-last in
+    let at = (goal.at.returns c).After-last_piece-last in
     record { after = cut_contents text_legible (fronted c.args.self.now) _ _ c.requires (piece at) (before at); count = refl }

@@ -9,4 +9,4 @@ use Rattle.text_store.proofs.text_store.TextStore.held.Goals as goal
 pub returns : goal.returns
 returns c =
     let s = c.args.self.now in
-    subst (λ memory. StandsFor text_clause (take s.held memory) (text_list (take s.held (vec_items s.bytes)))) (sym c.as-slice.ensures.value) (stands_for text_legible (fronted s))
+    subst (λ memory. StandsFor text_clause (take s.held memory) (text_list (take s.held (vec_items s.bytes)))) (sym c.as_slice.ensures.value) (stands_for text_legible (fronted s))

@@ -13,8 +13,8 @@ pub loop-self-preserved : goal.loop-self-preserved
 loop-self-preserved c =
     let s = c.args.self.now in
     let t = c.loop-self.self in
-    let less = c.drop-last.ensures.count in (
-      c.drop-last.ensures.after
+    let less = c.drop_last.ensures.count in (
+      c.drop_last.ensures.after
           ∙ ap (after_cut (t.count - 1)) c.loop-self.invariant.0
           ∙ cut_cut (contents_of s) (t.count - 1) t.count (omega arith)
           ∙ ap (λ n. after_cut n (contents_of s)) (sym less),
