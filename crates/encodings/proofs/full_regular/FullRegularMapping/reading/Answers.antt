@@ -7,13 +7,13 @@ use Rattle.encodings.specs.Guard.{reading_no_size, reading_no_row}
 use Rattle.encodings.specs.Levels.{reading_scanned}
 use Rattle.encodings.specs.Rows.{row_refused}
 use Rattle.encodings.proofs.full_regular.FullRegularMapping.reading.Goals as goal
-use Rattle.encodings.proofs.full_regular.FullRegularMapping.reading.Goals.{then-not-in-sizes-via-then-not-in-sizes, then-not-in-sizes-via-else-not-in-sizes+then-bits-size, in-0, in-1}
+use Rattle.encodings.proofs.full_regular.FullRegularMapping.reading.Goals.{then-not-in_sizes-via-then-not-in_sizes, then-not-in_sizes-via-else-not-in_sizes+then-bits-size, in-0, in-1}
 
 pub returns-then-not-in_sizes : goal.returns-then-not-in_sizes
 returns-then-not-in_sizes c =
     elim c.then-not-in_sizes.branch [
-      | then-not-in-sizes-via-then-not-in-sizes w ↦ sym (reading_no_size full_regular_within c.args.size c.args.bits.now (sym w.if-not-in_sizes.ensures))
-      | then-not-in-sizes-via-else-not-in-sizes+then-bits-size w ↦
+      | then-not-in_sizes-via-then-not-in_sizes w ↦ sym (reading_no_size full_regular_within c.args.size c.args.bits.now (sym w.if-not-in_sizes.ensures))
+      | then-not-in_sizes-via-else-not-in_sizes+then-bits-size w ↦
           sym (reading_no_row full_regular_within c.args.size c.args.bits.now (row_refused _ c.args.bits.now w.if-bits-size.true))
     ]
 
