@@ -1,10 +1,10 @@
 -- Clauses put one by one into a store that has room for them all. Assumes nothing.
-use Rattle.std.proofs.Common.{◌≡◌, ℕ, ◌+◌, ◌-◌, ◌≤◌, Bool, true, false, cond, ◌&&◌, leb, List, [], ◌∷◌, ◌++◌, map, length, ℤ, Some, None, Ok, Err, Option, Result, sym, refl, ap, ◌∙◌, subst, append_assoc, append-nil, arith}
-use Rattle.std.proofs.lemmas.Bool.{and_parts, and_from, le-leb, cond-true}
-use Rattle.formula.specs.Boolean.{Clause, words, words_of}
+use Rattle.std.proofs.Common.{◌≡◌, true, leb, List, [], ◌∷◌, ◌++◌, map, None, Ok, sym, refl, ap, ◌∙◌, append_assoc, append-nil, arith}
+use Rattle.std.proofs.lemmas.Bool.{and_parts, le-leb, cond-true}
+use Rattle.formula.specs.Boolean.{Clause, words}
 use Rattle.formula.specs.Tests.{every}
 use Rattle.formula.proofs.Tests.{every_parts, sum_append}
-use Rattle.store.specs.Stores.{Terms, Contents, fits, unfit, words_left, words_answer, put_answer, answer_by, appended}
+use Rattle.store.specs.Stores.{Terms, Contents, fits, unfit, words_left, put_answer, answer_by, appended}
 use Rattle.translator.specs.Filing.{with_all}
 use Rattle.translator.specs.Placed.{Takes}
 

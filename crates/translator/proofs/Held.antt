@@ -1,5 +1,5 @@
 -- What code holds of a form is the form. Assumes nothing.
-use Rattle.std.proofs.Common.{◌≡◌, ℕ, ◌≤◌, List, ◌++◌, map, length, take, drop, ℤ, sym, refl, ap, ◌∙◌, subst, arith}
+use Rattle.std.proofs.Common.{◌≡◌, ◌≤◌, List, map, length, take, ℤ, sym, refl, ap, ◌∙◌, arith}
 use Rattle.std.proofs.lemmas.List.{take_at, length-map, length-take-le}
 use Rattle.formula.specs.declared.signed.Literal.{Literal}
 use Rattle.mapping.specs.Forms.{Form, all_of, any_of, members, shape_of, shifted, shifted_form, split, taken}

@@ -1,10 +1,9 @@
 -- The literals of a form, one by one. Assumes nothing.
-use Rattle.std.proofs.Common.{◌≡◌, ℕ, zero, suc, ◌+◌, ◌^◌, ◌<◌, ◌≤◌, Bool, true, ◌&&◌, ltb, List, [], ◌∷◌, ◌++◌, map, length, get_or, take, set, ℤ, pos, sym, refl, ap, ◌∙◌, subst, append_assoc, add_assoc, arith}
+use Rattle.std.proofs.Common.{◌≡◌, ℕ, ◌+◌, ◌^◌, ◌<◌, ltb, List, [], ◌∷◌, ◌++◌, length, get_or, take, set, ℤ, pos, sym, ap, ◌∙◌, subst, append_assoc, add_assoc, arith}
 use Rattle.std.proofs.lemmas.List.{get_or-map, get_or-take, take_more, take_more_set, length-map}
-use Rattle.std.proofs.lemmas.Bool.{and_parts, ltb-true}
+use Rattle.std.proofs.lemmas.Bool.{ltb-true}
 use Rattle.formula.proofs.Tests.{every_at}
 use Rattle.formula.specs.Boolean.{number}
-use Rattle.formula.specs.Tests.{every}
 use Rattle.mapping.specs.Forms.{shifted}
 use Rattle.translator.specs.declared.placed.PlacedForm.{PlacedForm}
 use Rattle.translator.specs.Placed.{own_literals, Few, Small}

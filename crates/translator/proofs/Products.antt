@@ -1,9 +1,9 @@
 -- The clauses of a product, form by form. Assumes nothing.
-use Rattle.std.proofs.Common.{◌≡◌, ℕ, ◌+◌, ◌*◌, ◌<◌, ◌≤◌, true, List, [], ◌∷◌, ◌++◌, map, length, get_or, take, drop, set, ℤ, pos, sym, refl, ap, ◌∙◌, subst, append_assoc, append-nil, arith}
-use Rattle.std.specs.List.{flat_map, AllByRecursion as All}
+use Rattle.std.proofs.Common.{◌≡◌, ℕ, ◌+◌, ◌<◌, ◌≤◌, List, [], ◌∷◌, ◌++◌, map, length, get_or, take, drop, ℤ, sym, refl, ap, ◌∙◌, append_assoc, append-nil}
+use Rattle.std.specs.List.{flat_map}
 use Rattle.std.proofs.lemmas.List.{map-append, drop_more, drop_all}
 use Rattle.formula.specs.Boolean.{Clause}
-use Rattle.mapping.specs.Forms.{Form, all_of, any_of, distributed, shifted, shifted_form}
+use Rattle.mapping.specs.Forms.{Form, all_of, any_of, distributed, shifted_form}
 use Rattle.mapping.specs.declared.Kind.{Kind}
 use Rattle.mapping.specs.declared.Kind.TheVariants.{AllOf, AnyOf}
 use Rattle.mapping.proofs.Distribution.{fronted}

@@ -1,16 +1,15 @@
 -- What a store that has been asked for room can take. Assumes nothing.
-use Rattle.std.proofs.Common.{◌≡◌, ℕ, ◌+◌, ◌-◌, ◌*◌, ◌^◌, ◌≤◌, Bool, true, false, cond, leb, List, [], ◌∷◌, ◌++◌, map, length, take, ℤ, Ok, Err, Result, sym, refl, ap, ◌∙◌, subst, ⊎_elim, arith}
+use Rattle.std.proofs.Common.{◌≡◌, ℕ, ◌≤◌, leb, List, map, length, take, ℤ, Ok, Err, Result, sym, ap, ◌∙◌, subst, ⊎_elim, arith}
 use Rattle.std.specs.List.{AllByRecursion as All}
 use Rattle.std.proofs.lemmas.List.{map-id}
 use Rattle.std.proofs.lemmas.Bool.{cases_Bool, cond-true, cond-false, leb-true}
-use Rattle.formula.specs.Boolean.{Clause, words_of}
+use Rattle.formula.specs.Boolean.{words_of}
 use Rattle.formula.specs.Tests.{every}
 use Rattle.formula.specs.declared.signed.Literal.{Literal}
 use Rattle.mapping.specs.Forms.{Form, distributed}
 use Rattle.mapping.specs.Meanings.{Meaning, Lawful}
-use Rattle.store.specs.Stores.{Terms, Bounded, Contents, words_left, words_answer}
+use Rattle.store.specs.Stores.{Terms, Bounded, Contents, words_left}
 use Rattle.store.specs.declared.StoreFault.{StoreFault}
-use Rattle.store.specs.declared.StoreFault.TheVariants.{NumbersSpent, WordsShort}
 use Rattle.translator.specs.declared.places.Place.{Place}
 use Rattle.translator.specs.declared.placed.PlacedForm.{PlacedForm}
 use Rattle.translator.specs.Filing.{room_answer, clause_answer, with_all, after_all}

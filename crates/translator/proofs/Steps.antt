@@ -1,15 +1,14 @@
 -- The steps of the recursion over a product's forms. Assumes nothing.
-use Rattle.std.proofs.Common.{◌≡◌, ℕ, ◌+◌, ◌-◌, ◌*◌, ◌<◌, ◌≤◌, List, [], ◌∷◌, ◌++◌, map, length, get_or, take, drop, set, ℤ, pos, Ok, Err, Result, sym, refl, ap, ◌∙◌, subst, append-nil, arith, length-set}
+use Rattle.std.proofs.Common.{◌≡◌, ℕ, ◌+◌, ◌<◌, ◌≤◌, List, [], ◌∷◌, ◌++◌, map, length, get_or, take, set, ℤ, pos, Ok, Result, sym, refl, ap, ◌∙◌, subst, arith}
 use Rattle.std.proofs.lemmas.List.{take_more_set, take-set, take_at, take-take, length-take-le, get_or_default}
 use Rattle.formula.specs.Boolean.{Clause}
 use Rattle.mapping.specs.Forms.{distributed}
-use Rattle.mapping.specs.declared.Kind.{Kind}
 use Rattle.mapping.specs.declared.Kind.TheVariants.{AllOf, AnyOf}
 use Rattle.store.specs.Stores.{Terms, Contents, put_answer, after_put, appended}
 use Rattle.store.specs.declared.StoreFault.{StoreFault}
 use Rattle.translator.specs.declared.placed.PlacedForm.{PlacedForm}
 use Rattle.translator.specs.Filing.{with_all}
-use Rattle.translator.specs.Placed.{form_in, own_literals, product_behind, Few, Small, Takes, Ready}
+use Rattle.translator.specs.Placed.{form_in, own_literals, product_behind, Takes, Ready}
 use Rattle.translator.proofs.Filled.{with_none, with_one, with_append, taken_first, taken_parts}
 use Rattle.translator.proofs.Held.{held_count}
 use Rattle.translator.proofs.Products.{left, left_more, left_none, product_all, product_any, product_none, Going}

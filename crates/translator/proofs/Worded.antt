@@ -1,5 +1,5 @@
 -- Clauses that lie in memory as words, moved and put one by one. Assumes nothing.
-use Rattle.std.proofs.Common.{◌≡◌, ℕ, zero, suc, ◌+◌, ◌-◌, ◌^◌, ◌<◌, ◌≤◌, Bool, true, ltb, List, [], ◌∷◌, ◌++◌, map, length, get_or, take, drop, set, ℤ, pos, negsuc, Ok, Result, sym, refl, ap, ◌∙◌, subst, append_assoc, append-nil, add-zero, arith, length-set}
+use Rattle.std.proofs.Common.{◌≡◌, ℕ, zero, suc, ◌+◌, ◌-◌, ◌^◌, ◌<◌, ◌≤◌, true, ltb, List, [], ◌∷◌, ◌++◌, map, length, get_or, take, drop, set, ℤ, pos, negsuc, Ok, Result, sym, refl, ap, ◌∙◌, subst, add-zero, arith, length-set}
 use Rattle.std.proofs.lemmas.List.{take_more, take_more_set, drop_more, drop_all, drop-drop, take_all, get_or-map, get_or-drop, drop-append-le, length-take, length-map, drop-set-lt}
 use Rattle.std.proofs.lemmas.Slice.{between_is}
 use Rattle.formula.specs.Boolean.{Clause, number}

@@ -1,4 +1,3 @@
-use Rattle.std.proofs.Common.{arith}
 use Rattle.translator.proofs.Loading.{reach_more, reach_all}
 use Rattle.translator.proofs.placed.find_reach.Goals as goal
 

@@ -1,4 +1,4 @@
-use Rattle.std.proofs.Common.{◌≡◌, ◌^◌, ◌<◌, max, drop}
+use Rattle.std.proofs.Common.{◌≡◌, max, drop}
 use Rattle.translator.specs.Places.{reach}
 use Rattle.translator.proofs.placed.find_reach.Given as goal
 

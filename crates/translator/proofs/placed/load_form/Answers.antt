@@ -1,4 +1,4 @@
-use Rattle.std.proofs.Common.{◌≤◌, sym, ap, subst, rules}
+use Rattle.std.proofs.Common.{◌≤◌, sym, subst, rules}
 use Rattle.mapping.proofs.Ranges.{forms_few}
 use Rattle.mapping.specs.declared.Shape.{Shape}
 use Rattle.translator.proofs.Held.{loaded}

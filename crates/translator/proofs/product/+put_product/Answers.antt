@@ -9,8 +9,8 @@ use Rattle.translator.proofs.product.+put_product.Goals as goal
 front_kept : (front xs post : List ℤ) (used : ℕ) → xs ≡ take used front → used ≤ length front → take used (xs ++ post) ≡ take used front
 front_kept front xs post used is within = ap (λ ys. take used (ys ++ post)) is ∙ take_at (take used front) post used (length-take-le used front within)
 
-pub returns-in-default : goal.returns-in-default
-returns-in-default g t c =
+pub returns-in_default : goal.returns-in_default
+returns-in_default g t c =
     let S = g.S.Store in
     let used = c.args.used in
     let front = c.args.front.now in
@@ -29,22 +29,22 @@ loop-i-init g t c =
     let some : 0 < length c.args.forms.now = search rules in
     going_none _ _ _ _ _ _ c.args.forms.now (first_rest c.args.forms.now _ some) c.in-AllOf.is c.told-front c.requires
 
-pub put-product-requires : goal.put-product-requires
-put-product-requires g t c κs within =
+pub put_product-requires : goal.put_product-requires
+put_product-requires g t c κs within =
     let some : 0 < length c.args.forms.now = search rules in
-    (search rules, (search rules, ready_one _ _ _ _ _ _ _ _ _ _ c.args.forms.now (first_rest c.args.forms.now _ some) c.requires c.loop-i.invariant (omega arith) _ c.put-literal.ensures))
+    (search rules, (search rules, ready_one _ _ _ _ _ _ _ _ _ _ c.args.forms.now (first_rest c.args.forms.now _ some) c.requires c.loop-i.invariant (omega arith) _ c.put_literal.ensures))
 
 pub loop-i-preserved : goal.loop-i-preserved
 loop-i-preserved g t c =
     let some : 0 < length c.args.forms.now = search rules in
-    let said = c.put-product.ensures in
+    let said = c.put_product.ensures in
     going_more _ _ _ _ _ _ _ _ _ _ c.args.forms.now (first_rest c.args.forms.now _ some) c.requires c.loop-i.invariant (omega arith)
-    _ _ _ _ c.put-literal.ensures said.same said.after said.kept c.put-product.array_long
+    _ _ _ _ c.put_literal.ensures said.same said.after said.kept c.put_product.array_long
 
-pub put-product-requires-in-AnyOf : goal.put-product-requires-in-AnyOf
-put-product-requires-in-AnyOf g t c κs within =
+pub put_product-requires-in-AnyOf : goal.put_product-requires-in-AnyOf
+put_product-requires-in-AnyOf g t c κs within =
     let some : 0 < length c.args.forms.now = search rules in
-    (search rules, (search rules, ready_any _ _ _ _ _ _ c.args.forms.now (first_rest c.args.forms.now _ some) c.in-AnyOf.is c.requires _ c.put-literals.ensures))
+    (search rules, (search rules, ready_any _ _ _ _ _ _ c.args.forms.now (first_rest c.args.forms.now _ some) c.in-AnyOf.is c.requires _ c.put_literals.ensures))
 
 pub returns-after-loop-i : goal.returns-after-loop-i
 returns-after-loop-i g t c =
@@ -59,11 +59,11 @@ returns-after-loop-i g t c =
 pub returns-in-AnyOf : goal.returns-in-AnyOf
 returns-in-AnyOf g t c =
     let some : 0 < length c.args.forms.now = search rules in
-    let said = c.put-product-in-AnyOf.ensures in
+    let said = c.put_product-in-AnyOf.ensures in
     let is = first_rest c.args.forms.now _ some in
     record {
       answer = said.answer;
-      after = after_any _ _ _ _ _ _ c.args.forms.now is c.in-AnyOf.is c.requires _ c.put-literals.ensures _ said.after;
+      after = after_any _ _ _ _ _ _ c.args.forms.now is c.in-AnyOf.is c.requires _ c.put_literals.ensures _ said.after;
       same = said.same;
-      kept = kept_any _ _ _ _ _ _ c.args.forms.now is c.in-AnyOf.is c.requires _ c.put-literals.ensures _ (omega (arith, c.requires.space, c.told-front)) said.kept;
+      kept = kept_any _ _ _ _ _ _ c.args.forms.now is c.in-AnyOf.is c.requires _ c.put_literals.ensures _ (omega (arith, c.requires.space, c.told-front)) said.kept;
     }

@@ -2,8 +2,8 @@ use Rattle.std.proofs.Common.{length}
 use Rattle.translator.proofs.Products.{Going}
 use Rattle.translator.proofs.product.+put_product.Given as goal
 
-abbrev pub decreases-put-product : goal.decreases-put_product
-decreases-put-product g l = length l.forms.now
+abbrev pub decreases-put_product : goal.decreases-put_product
+decreases-put_product g l = length l.forms.now
 
 abbrev pub invariant-loop-i : goal.invariant-loop-i
 invariant-loop-i g l =

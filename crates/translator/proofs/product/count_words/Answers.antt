@@ -1,7 +1,7 @@
 use Rattle.std.proofs.Common.{◌+◌, ◌≤◌, refl, mul-le-mul, arith}
 use Rattle.std.proofs.ByRecursion.{All-get_or}
 use Rattle.translator.specs.Placed.{Few}
-use Rattle.translator.proofs.Counting.{Counted, counted_more, counted_fits, counted_all}
+use Rattle.translator.proofs.Counting.{counted_more, counted_fits, counted_all}
 use Rattle.translator.proofs.product.count_words.Goals as goal
 
 pub split_of-product-requires : goal.split_of-product-requires
