@@ -39,7 +39,7 @@ def main(crate):
     for key, entry in made.items():
         if not key.startswith(head):
             continue
-        place = key[len(head):].rsplit(".", 1)[0].split(".")
+        place = key[len(head):].rsplit(".", 1)[0].replace("+", "").split(".")
         if place and place[0] in ("the-impl",):
             continue
         names = strings(entry, set())
@@ -51,7 +51,7 @@ def main(crate):
         by = {}
         for n in parts:
             by.setdefault(alike(n), set()).add(n)
-        for f in glob.glob("crates/" + crate + "/proofs/**/" + place[-1] + "/*.antt", recursive=True):
+        for f in glob.glob("crates/" + crate + "/proofs/**/*" + place[-1] + "/*.antt", recursive=True):
             at = os.path.dirname(f)[len("crates/" + crate + "/proofs/"):].replace("+", "").split("/")
             if at != place:
                 continue

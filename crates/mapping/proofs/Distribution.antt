@@ -1,11 +1,11 @@
 -- How many clauses and words a row of forms is distributed to. Assumes nothing.
-use Rattle.std.proofs.Common.{◌≡◌, ℕ, ◌+◌, ◌*◌, List, [], ◌∷◌, ◌++◌, map, length, ℤ, sym, refl, ap, ◌∙◌, arith, length-append}
+use Rattle.std.proofs.Common.{◌≡◌, ◌+◌, ◌*◌, List, [], ◌∷◌, ◌++◌, map, length, ℤ, refl, ap, ◌∙◌, arith, length-append}
 use Rattle.std.specs.List.{flat_map}
 use Rattle.std.proofs.lemmas.List.{length-map}
 use Rattle.formula.proofs.Tests.{sum_append}
 use Rattle.formula.specs.Boolean.{Clause, words, words_of}
 use Rattle.formula.specs.Tests.{sum_of, product_of}
-use Rattle.mapping.specs.Forms.{Form, all_of, any_of, choices, distributed, split, taken}
+use Rattle.mapping.specs.Forms.{Form, all_of, any_of, distributed, split, taken}
 
 -- what one choice of a form gives, in front of the clauses of the others
 abbrev pub fronted : List Clause → List ℤ → List Clause

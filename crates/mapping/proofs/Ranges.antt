@@ -1,11 +1,11 @@
 -- What the laws give at every size and value, out of range too. Assumes nothing.
-use Rattle.std.proofs.Common.{◌≡◌, ℕ, ◌+◌, ◌≤◌, Bool, true, false, cond, ◌&&◌, leb, List, [], length, sym, refl, ap, ◌∙◌, subst, ⊎_elim, arith}
-use Rattle.std.proofs.lemmas.Bool.{cases_Bool, cond-true, cond-false, and_parts}
+use Rattle.std.proofs.Common.{◌≡◌, ℕ, ◌≤◌, Bool, true, cond, ◌&&◌, List, [], length, sym, refl, subst, ⊎_elim, arith}
+use Rattle.std.proofs.lemmas.Bool.{cases_Bool, and_parts}
 use Rattle.formula.specs.Boolean.{Clause, local, words_of}
 use Rattle.formula.specs.Tests.{every}
 use Rattle.formula.specs.declared.signed.Sign.{Sign}
 use Rattle.mapping.specs.Forms.{Form, any_of, members}
-use Rattle.mapping.specs.Meanings.{Meaning, Lawful, LawfulAt, is_size, is_value, guarded}
+use Rattle.mapping.specs.Meanings.{Meaning, Lawful, is_size, is_value}
 
 module _ (M : Meaning) (lawful : Lawful M) where
   -- a fact of every size in range that holds of no Booleans and no axioms holds of every size

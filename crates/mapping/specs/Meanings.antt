@@ -1,5 +1,5 @@
 -- What a mapping means, and the laws that it keeps. Assumes nothing.
-use Rattle.std.specs.Prelude.{◌≡◌, ℕ, ◌≤◌, Bool, true, false, cond, ◌&&◌, List, [], length, is_some, Some, None, Option, ◌==◌, nat_le}
+use Rattle.std.specs.Prelude.{◌≡◌, ℕ, ◌≤◌, Bool, true, cond, ◌&&◌, List, [], length, is_some, Some, None, Option, ◌==◌, nat_le}
 use Rattle.formula.specs.Boolean.{Clause, row, satisfies, local, words_of}
 use Rattle.formula.specs.Sheets.{by_sign}
 use Rattle.formula.specs.Tests.{every}

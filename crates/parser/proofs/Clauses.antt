@@ -3,7 +3,7 @@ use Rattle.std.proofs.Common.{◌≡◌, ℕ, List, [], ◌∷◌, ◌++◌, Som
 use Rattle.formula.specs.declared.signed.Literal.{Literal}
 use Rattle.parser.specs.Cuts.{given, before, behind, parts}
 use Rattle.parser.specs.Fields.{literal_of, literals_of}
-use Rattle.parser.specs.Said.{Said, states, unreadable, said_by}
+use Rattle.parser.specs.Said.{states, unreadable, said_by}
 use Rattle.parser.proofs.Parting.{parts_behind, parts_cut}
 
 -- the literals so far, and those of what is left

@@ -1,11 +1,11 @@
 -- What a command byte says of a line. Assumes nothing.
-use Rattle.std.proofs.Common.{◌≡◌, ℕ, ◌<◌, eqb, List, ◌∷◌, length, get_or, sym, ap, ◌∙◌}
+use Rattle.std.proofs.Common.{◌≡◌, ℕ, ◌<◌, List, ◌∷◌, length, get_or, sym, ap, ◌∙◌}
 use Rattle.std.proofs.lemmas.Slice.{first_rest}
 use Rattle.std.specs.List.{between}
 use Rattle.encodings.specs.Names.{name_of}
 use Rattle.parser.specs.Cuts.{given}
 use Rattle.parser.specs.Fields.{number_of}
-use Rattle.parser.specs.Said.{Said, maps, declares, states, field_of, clause_fields, said_by, said}
+use Rattle.parser.specs.Said.{maps, declares, states, field_of, clause_fields, said_by, said}
 
 module _ (line : List ℕ) (some : 0 < length line) where
   abbrev fields : List ℕ

@@ -1,5 +1,5 @@
 -- A literal, read part by part. Assumes nothing.
-use Rattle.std.proofs.Common.{◌≡◌, ℕ, List, ◌∷◌, Some, None, Option, sym, refl, ap, ◌∙◌}
+use Rattle.std.proofs.Common.{◌≡◌, ℕ, List, ◌∷◌, Some, Option, ap, ◌∙◌}
 use Rattle.formula.specs.Signs.{sign_of}
 use Rattle.formula.specs.declared.signed.Literal.{Literal}
 use Rattle.formula.specs.declared.signed.Sign.{Sign}

@@ -1,5 +1,5 @@
 -- What a clause store means: its terms, its contents, and what each call does to them. Assumes nothing.
-use Rattle.std.specs.Prelude.{ℕ, ◌+◌, ◌-◌, ◌^◌, ◌≤◌, Bool, cond, ◌&&◌, List, [], ◌∷◌, ◌++◌, take, ℤ, Some, None, Ok, Err, Option, Result, nat_le}
+use Rattle.std.specs.Prelude.{ℕ, ◌-◌, ◌^◌, ◌≤◌, Bool, cond, ◌&&◌, List, [], ◌∷◌, ◌++◌, take, ℤ, Some, None, Ok, Err, Option, Result, nat_le}
 use Rattle.formula.specs.Boolean.{Clause, number, words, words_of}
 use Rattle.store.specs.declared.StoreFault.{StoreFault}
 use Rattle.store.specs.declared.StoreFault.TheVariants.{NumbersSpent, WordsShort}

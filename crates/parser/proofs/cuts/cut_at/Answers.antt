@@ -1,7 +1,7 @@
-use Rattle.std.proofs.Common.{◌≡◌, ℕ, ◌-◌, take, Some, ap, ◌∙◌}
+use Rattle.std.proofs.Common.{ℕ, take, Some, ap, ◌∙◌}
 use native.Mathlib.Nat.{sub-zero}
 use Rattle.std.proofs.lemmas.List.{take_rest}
-use Rattle.parser.proofs.Cutting.{Passed, passed_none, passed_more, passed_mark, passed_all}
+use Rattle.parser.proofs.Cutting.{passed_none, passed_more, passed_mark, passed_all}
 use Rattle.parser.proofs.cuts.cut_at.Goals as goal
 
 pub loop-i-init : goal.loop-i-init

@@ -1,4 +1,4 @@
-use Rattle.std.proofs.Common.{◌≡◌, ℕ, ◌<◌, List, [], length, Some, None, vec_items, Option, unwrap_or, sym, refl, ap, ◌∙◌, subst, subst₂, arith, Bor}
+use Rattle.std.proofs.Common.{◌≡◌, ℕ, ◌<◌, List, [], length, Some, None, vec_items, Option, unwrap_or, sym, refl, ap, ◌∙◌, subst₂, arith, Bor}
 use Rattle.std.proofs.lemmas.Bool.{eqb-true, eqb-false}
 use Rattle.std.specs.Option.{option_map}
 use Rattle.parser.specs.Cuts.{behind}
@@ -15,16 +15,16 @@ pub loop-rest-smaller : goal.loop-rest-smaller
 loop-rest-smaller c =
     let rest = c.loop-rest.rest.now in
     let some : 0 < length rest = omega (arith, eqb-false (length rest) 0 (sym c.loop-rest-test.ensures)) in
-    let left : c.unwrap-or-rest.result.now ≡ unwrap_or (behind 10 rest) [] = left_is _ _ _ _ refl c.unwrap-or-rest.ensures c.cut-at-cut.ensures.rest in
+    let left : c.unwrap_or-rest.result.now ≡ unwrap_or (behind 10 rest) [] = left_is _ _ _ _ refl c.unwrap_or-rest.ensures c.cut_at-cut.ensures.rest in
     omega (arith, ap length left, rest_shorter rest some)
 
 pub loop-rest-preserved : goal.loop-rest-preserved
 loop-rest-preserved c =
     let rest = c.loop-rest.rest.now in
     let some : 0 < length rest = omega (arith, eqb-false (length rest) 0 (sym c.loop-rest-test.ensures)) in
-    let left : c.unwrap-or-rest.result.now ≡ unwrap_or (behind 10 rest) [] = left_is _ _ _ _ refl c.unwrap-or-rest.ensures c.cut-at-cut.ensures.rest in
-    subst₂ (Reading c.args.text.now) (sym c.in-ok-push.ensures.items) (sym left)
-    (reading_more c.args.text.now (vec_items c.loop-rest.all) rest _ some (c.in-ok-read-line.ensures ∙ ap said c.cut-at-cut.ensures.front) c.loop-rest.invariant)
+    let left : c.unwrap_or-rest.result.now ≡ unwrap_or (behind 10 rest) [] = left_is _ _ _ _ refl c.unwrap_or-rest.ensures c.cut_at-cut.ensures.rest in
+    subst₂ (Reading c.args.text.now) (sym c.in_ok-push.ensures.items) (sym left)
+    (reading_more c.args.text.now (vec_items c.loop-rest.all) rest _ some (c.in_ok-read_line.ensures ∙ ap said c.cut_at-cut.ensures.front) c.loop-rest.invariant)
 
 pub returns : goal.returns
 returns c =
