@@ -1,6 +1,6 @@
 -- Calls made one by one: what is left gives the whole. Assumes nothing.
-use Rattle.std.proofs.Common.{◌≡◌, ℕ, ◌+◌, ◌<◌, ◌≤◌, List, [], ◌∷◌, ◌++◌, map, length, get_or, take, drop, set, sym, refl, ap, ◌∙◌, subst, append_assoc, append-nil, arith, length-set, take-append-drop}
-use Rattle.std.proofs.lemmas.List.{drop-map, drop_more, drop_all, length-map, take_more_set, drop-set-lt, drop-drop, length-take-le, take_all, length-append}
+use Rattle.std.proofs.Common.{◌≡◌, ℕ, ◌+◌, ◌<◌, ◌≤◌, List, [], ◌∷◌, ◌++◌, map, length, get_or, take, drop, set, sym, refl, ap, ◌∙◌, append_assoc, append-nil, arith, length-set, take-append-drop}
+use Rattle.std.proofs.lemmas.List.{drop-map, drop_more, drop_all, length-map, take_more_set, drop-set-lt, drop-drop, length-take-le}
 use Rattle.mapping.specs.Memory.{over}
 use Rattle.workbook.specs.States.{Made, State}
 use Rattle.rows.specs.declared.Answer.{Answer}

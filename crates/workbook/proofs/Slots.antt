@@ -1,6 +1,6 @@
 -- Entries as code keeps them. Assumes nothing.
-use Rattle.std.proofs.Common.{◌≡◌, ℕ, ◌+◌, ◌≤◌, List, [], ◌∷◌, ◌++◌, length, take, drop, sym, refl, ap, ◌∙◌, subst, arith}
-use Rattle.std.proofs.lemmas.List.{length-take-le, length-drop, length-append, take-append-le, drop-append-le, take_all, nil_from_length}
+use Rattle.std.proofs.Common.{◌≡◌, ℕ, ◌+◌, ◌≤◌, List, [], ◌∷◌, ◌++◌, length, take, drop, sym, refl, ap, ◌∙◌, arith}
+use Rattle.std.proofs.lemmas.List.{length-take-le, length-drop, take-append-le, drop-append-le, take_all, nil_from_length}
 use Rattle.formula.specs.Sheets.{Entry, variable, clause, clauses}
 use Rattle.formula.specs.declared.signed.Literal.{Literal}
 use Rattle.workbook.specs.declared.sheet.Slot.{Slot}

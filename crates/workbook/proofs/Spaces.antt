@@ -1,5 +1,5 @@
 -- How full a sheet in memory is. Assumes nothing.
-use Rattle.std.proofs.Common.{◌≡◌, ℕ, ◌+◌, ◌<◌, ◌≤◌, cond, ◌&&◌, ltb, leb, length, Ok, Err, vec_items, vec_len, sym, refl, ap, ◌∙◌, arith}
+use Rattle.std.proofs.Common.{◌≡◌, ℕ, ◌+◌, ◌<◌, ◌≤◌, ◌&&◌, ltb, leb, length, Ok, Err, vec_items, vec_len, sym, ◌∙◌, arith}
 use Rattle.std.proofs.lemmas.Bool.{and_from, and_left, and_right, cond-true, cond-false, lt-ltb, le-ltb, le-leb, lt-leb}
 use Rattle.formula.specs.Sheets.{clauses}
 use Rattle.workbook.specs.declared.faults.WorkbookFault.TheVariants.{SheetFull}

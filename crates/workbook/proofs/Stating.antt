@@ -1,7 +1,7 @@
 -- A clause that passes the checks of the sheet and is filed. Assumes nothing.
-use Rattle.std.proofs.Common.{◌≡◌, ℕ, ◌+◌, ◌<◌, ◌≤◌, Bool, true, false, cond, ◌&&◌, ltb, leb, List, length, take, Ok, Err, Result, sym, refl, ap, ◌∙◌, subst, ⊎_elim, arith}
+use Rattle.std.proofs.Common.{◌≡◌, ℕ, ◌+◌, ◌<◌, ◌≤◌, Bool, true, false, ltb, leb, List, length, take, Ok, Err, Result, sym, refl, ap, ◌∙◌, subst}
 use Rattle.std.proofs.lemmas.List.{take_all}
-use Rattle.std.proofs.lemmas.Bool.{cases_Bool, and_parts, cond-true, cond-false, leb-true, ltb-true}
+use Rattle.std.proofs.lemmas.Bool.{and_parts, leb-true, ltb-true}
 use Rattle.formula.specs.Sheets.{clauses}
 use Rattle.formula.specs.declared.signed.Literal.{Literal}
 use Rattle.store.specs.Stores.{Contents}
@@ -11,7 +11,7 @@ use Rattle.translator.specs.Filing as filing
 use Rattle.translator.specs.Filing.{after_all, with_all}
 use Rattle.translator.specs.Places.{placed_clause}
 use Rattle.workbook.specs.declared.faults.WorkbookFault.{WorkbookFault}
-use Rattle.workbook.specs.declared.faults.WorkbookFault.TheVariants.{Store, SheetFull, Long}
+use Rattle.workbook.specs.declared.faults.WorkbookFault.TheVariants.{Store, Long}
 use Rattle.workbook.specs.Calls.{state_answer, stated}
 use Rattle.workbook.specs.Checks.{check, space_answer, literals_answer, clause_answer}
 use Rattle.workbook.specs.Faults.{from_store, and_then, numbered, on_ok, detail}

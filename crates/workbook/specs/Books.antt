@@ -1,5 +1,4 @@
 -- What a workbook was made of and what it holds, read off it. Assumes nothing.
-use Rattle.std.specs.Prelude.{ℕ}
 use Rattle.mapping.specs.Meanings.{Meaning}
 use Rattle.store.specs.Stores.{Terms, Contents}
 use Rattle.workbook.specs.declared.book.Workbook.{Workbook}

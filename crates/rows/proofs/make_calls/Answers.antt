@@ -4,7 +4,7 @@ use Rattle.rows.proofs.make_calls.Goals as goal
 
 pub loop-i-preserved : goal.loop-i-preserved
 loop-i-preserved g c =
-    let said = c.make-call.ensures in
+    let said = c.make_call.ensures in
     going_more _ _ _ _ _ _ _ _ c.loop-i.invariant _ _ _ _ (omega arith) (omega arith) said.answer said.after said.same
 
 pub returns : goal.returns

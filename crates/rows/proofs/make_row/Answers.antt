@@ -1,7 +1,6 @@
-use Rattle.std.proofs.Common.{◌≡◌, ◌≤◌, map, length, sym, ap, ◌∙◌, subst, arith}
+use Rattle.std.proofs.Common.{map, ◌∙◌, arith}
 use Rattle.std.proofs.lemmas.List.{length-map}
 use Rattle.mapping.specs.Memory.{over}
-use Rattle.workbook.specs.States.{Made, State, new_state}
 use Rattle.rows.specs.Rows.{step_of, row_answers, after_row}
 use Rattle.rows.proofs.make_row.Goals as goal
 
@@ -10,11 +9,11 @@ returns g c =
     let steps = map step_of c.args.row.now in
     let made = c.new-workbook.ensures.made in
     let state = c.new-workbook.ensures.state in
-    let said = c.make-calls.ensures in
+    let said = c.make_calls.ensures in
     record {
       fits = omega (arith, length-map c.args.row.now step_of);
       answers = said.answers ∙ (λ i. over (row_answers (made i) (state i) steps) c.args.answers.now);
       made = said.same ∙ made;
       state = said.after ∙ (λ i. after_row (made i) (state i) steps);
-      clauses = c.stored-clauses-clauses.ensures;
+      clauses = c.stored_clauses-clauses.ensures;
     }

@@ -1,4 +1,4 @@
-use Rattle.std.proofs.Common.{◌≡◌, ◌+◌, ◌<◌, List, vec_items, vec_len, ap, ◌∙◌, arith}
+use Rattle.std.proofs.Common.{◌+◌, ◌<◌, List, vec_items, vec_len, ap, ◌∙◌, arith}
 use Rattle.workbook.specs.Pages.{entries_in, slot_literals, slot_clauses}
 use Rattle.workbook.specs.Sheets.{page_in}
 use Rattle.workbook.specs.declared.sheet.Slot.{Slot}
