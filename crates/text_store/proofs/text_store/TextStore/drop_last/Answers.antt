@@ -26,7 +26,7 @@ pub invariant_of-self : goal.invariant_of-self
 invariant_of-self c =
     let at = (goal.at.invariant_of-self c).After-last_piece-last in
     let front = cut_front text_legible (fronted c.args.self.now) _ _ c.requires (piece at) (before at) in
-    (front.within, (front.text.whole, (front.text.fit_all, (front.text.words_are, (front.text.count_is, tt)))))
+    record { within = front.within; whole = front.text.whole; fit = front.text.fit_all; worded = front.text.words_are; counted = front.text.count_is }
 
 pub returns : goal.returns
 returns c =

@@ -43,7 +43,7 @@ pub invariant_of-self : goal.invariant_of-self
 invariant_of-self c =
     let at = goal.at.invariant_of-self c in
     let front = put_front text_legible (fronted c.args.self.now) c.args.clause.now (fit at.Else-words-left) (enough at.Else-words-left) _ _ (wrote at.After-write_clause-self) in
-    (front.within, (front.text.whole, (front.text.fit_all, (front.text.words_are, (front.text.count_is, tt)))))
+    record { within = front.within; whole = front.text.whole; fit = front.text.fit_all; worded = front.text.words_are; counted = front.text.count_is }
 
 pub returns : goal.returns
 returns c =
