@@ -18,6 +18,6 @@ pub returns : goal.returns
 returns c =
     let refusal = c.args.refusal in
     let letter : c.letter-letter.result ≡ layer_letter (reason_layer refusal.reason) = c.letter-letter.ensures ∙ ap layer_letter c.layer.ensures in
-    IfOk-weaker c.refused-text.result _ (λ t. string_bytes t ≡ refused_line c.args.line refusal)
+    IfOk-weaker c.refused_text.result _ (λ t. string_bytes t ≡ refused_line c.args.line refusal)
     (λ t h. h ∙ (λ i. refused_text c.args.line (c.number-number.ensures i) ((ap encode letter ∙ letter_byte (reason_layer refusal.reason)) i) refusal.details))
-    c.refused-text.ensures
+    c.refused_text.ensures

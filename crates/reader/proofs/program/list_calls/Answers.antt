@@ -2,20 +2,20 @@ use Rattle.std.proofs.Common.{◌≡◌, ◌+◌, List, [], ◌∷◌, ◌++◌,
 use Rattle.rows.specs.declared.Call.{Call}
 use Rattle.reader.proofs.Rowed.{Calls, calls_more, calls_all}
 use Rattle.reader.proofs.program.list_calls.Goals as goal
-use Rattle.reader.proofs.program.list_calls.Goals.{in-Some+in-ok-push, in-default}
+use Rattle.reader.proofs.program.list_calls.Goals.{in-Some+in_ok-push, in_default}
 
 pub loop-line-preserved : goal.loop-line-preserved
 loop-line-preserved c =
     let all = c.args.lines.now in
     let calls = vec_items c.loop-line.calls in
     let i = c.loop-line.line-index in
-    elim c.match-call-of.branch [
-      | in-Some+in-ok-push w ↦
-          subst (λ (xs : List Call). Calls all xs (i + 1)) (sym (ap vec_items w.calls-is ∙ w.in-ok-push.ensures.items))
+    elim c.match-call_of.branch [
+      | in-Some+in_ok-push w ↦
+          subst (λ (xs : List Call). Calls all xs (i + 1)) (sym (ap vec_items w.calls-is ∙ w.in_ok-push.ensures.items))
           (calls_more all calls i c.loop-line.invariant c.line-item.result (w.in-Some.call ∷ []) c.loop-line-test.true c.line-item.is w.in-Some.ensures)
-      | in-default w ↦
+      | in_default w ↦
           subst (λ (xs : List Call). Calls all xs (i + 1)) (append-nil calls ∙ sym (ap vec_items w.calls-is))
-          (calls_more all calls i c.loop-line.invariant c.line-item.result [] c.loop-line-test.true c.line-item.is w.in-default.ensures)
+          (calls_more all calls i c.loop-line.invariant c.line-item.result [] c.loop-line-test.true c.line-item.is w.in_default.ensures)
     ]
 
 pub returns : goal.returns

@@ -12,5 +12,5 @@ length_buffer = length-replicate {A = ℕ} 32768 0
 pub returns : goal.returns
 unfolding buffer
 returns c =
-    let bytes : vec_items c.in-ok-bytes.bytes ≡ buffer = c.in-ok-bytes.ensures.items-if-clones-equal (search rules) in
+    let bytes : vec_items c.in_ok-bytes.bytes ≡ buffer = c.in_ok-bytes.ensures.items_if_clones_equal (search rules) in
     (c.new.ensures.contents ∙ ap byte_empty bytes, c.new.ensures.terms ∙ ap text_terms (ap length bytes ∙ length_buffer))

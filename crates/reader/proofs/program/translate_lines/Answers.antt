@@ -11,13 +11,13 @@ pub returns : goal.returns
 returns g c =
     let M = g.M.Mapping.meaning in
     let ss = map said_of c.args.lines.now in
-    let store = c.in-ok-store.ensures in
-    let places = c.in-ok-answers.answers in
-    let lent : length c.make-row.new.answers ≡ length c.as-mut-slice.result.now = c.make-row.auto.answers in
-    let long : length c.as-mut-slice.result.now ≡ length (map step_of c.as-slice.result.now) =
-    omega (arith, c.as-mut-slice.ensures.len, c.in-ok-answers.ensures, c.len.ensures, c.as-slice.ensures.len, length-map c.as-slice.result.now step_of) in
-    let answers : c.as-slice-in-Ok.result.now ≡ c.make-row.new.answers = c.as-slice-in-Ok.ensures.value ∙ take_at c.make-row.new.answers _ places.len (omega (arith, lent, c.as-mut-slice.ensures.len)) in
-    IfOk-weaker c.print-row.result _ (λ v. vec_items v ≡ translated M ss)
+    let store = c.in_ok-store.ensures in
+    let places = c.in_ok-answers.answers in
+    let lent : length c.make_row.new.answers ≡ length c.as_mut_slice.result.now = c.make_row.auto.answers in
+    let long : length c.as_mut_slice.result.now ≡ length (map step_of c.as_slice.result.now) =
+    omega (arith, c.as_mut_slice.ensures.len, c.in_ok-answers.ensures, c.len.ensures, c.as_slice.ensures.len, length-map c.as_slice.result.now step_of) in
+    let answers : c.as_slice-in-Ok.result.now ≡ c.make_row.new.answers = c.as_slice-in-Ok.ensures.value ∙ take_at c.make_row.new.answers _ places.len (omega (arith, lent, c.as_mut_slice.ensures.len)) in
+    IfOk-weaker c.print_row.result _ (λ v. vec_items v ≡ translated M ss)
     (λ v h. h ∙ translated_is M ss _ _ _ _ _ _ _ _ c.in-Ok.ensures (λ i. record { book = 1; meaning = M; terms = store.1 i }) store.0
-    (ap (map step_of) c.as-slice.ensures.value ∙ c.in-ok-calls.ensures) long _ answers)
-    c.print-row.ensures
+    (ap (map step_of) c.as_slice.ensures.value ∙ c.in_ok-calls.ensures) long _ answers)
+    c.print_row.ensures
