@@ -1,5 +1,5 @@
 -- Lines, one by one: their calls, and what is printed of them. Assumes nothing.
-use Rattle.std.proofs.Common.{◌≡◌, ℕ, ◌+◌, ◌<◌, ◌≤◌, List, [], ◌∷◌, ◌++◌, map, length, get_or, drop, sym, refl, ap, ◌∙◌, append_assoc, append-nil, arith}
+use Rattle.std.proofs.Common.{◌≡◌, ℕ, ◌+◌, ◌<◌, ◌≤◌, List, ◌++◌, map, length, get_or, drop, sym, ap, ◌∙◌, append_assoc, append-nil, arith}
 use Rattle.std.proofs.lemmas.List.{at_drop_more, at_drop_all, map-append}
 use Rattle.std.specs.List.{flat_map}
 use Rattle.rows.specs.declared.Answer.{Answer}
@@ -7,7 +7,7 @@ use Rattle.rows.specs.declared.Call.{Call}
 use Rattle.rows.specs.Rows.{Step, step_of}
 use Rattle.parser.specs.declared.lines.Line.{Line}
 use Rattle.reader.specs.Program.{steps_in, outcome, outcome_line, refused_lines}
-use Rattle.parser.specs.Said.{Said, said_of}
+use Rattle.parser.specs.Said.{said_of}
 
 module _ (all : List Line) where
   -- the calls so far, and those of the lines that are left

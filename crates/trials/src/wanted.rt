@@ -48,7 +48,7 @@ fn translate(heap: Global, lines: &[u8], all: &mut Vec<u8>) {
 
 pub fn output(heap: Global, input: &[u8]) -> Vec<u8> {
     let mut all = Vec::new(heap);
-    let begins = input == b"m FR" || input.starts_with(b"m FR\n");
+    let begins = input == b"m FR".as_slice() || input.starts_with(b"m FR\n");
     if input.len() > 16384 || !begins {
         put_all(&mut all, b"c refused 1 15 L 0 0\n");
     } else {

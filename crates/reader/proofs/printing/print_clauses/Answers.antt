@@ -1,4 +1,4 @@
-use Rattle.std.proofs.Common.{◌≡◌, ℕ, List, ◌++◌, vec_items, ap, ◌∙◌, append_assoc}
+use Rattle.std.proofs.Common.{ℕ, List, ◌++◌, vec_items, ap, ◌∙◌, append_assoc}
 use Rattle.reader.specs.Program.{header}
 use Rattle.reader.proofs.printing.print_clauses.Goals as goal
 

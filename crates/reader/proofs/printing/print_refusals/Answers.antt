@@ -1,4 +1,4 @@
-use Rattle.std.proofs.Common.{◌≡◌, ℕ, ◌+◌, ◌++◌, drop, vec_items, Result, ap, ◌∙◌}
+use Rattle.std.proofs.Common.{ℕ, ◌+◌, ◌++◌, drop, vec_items, Result, ap, ◌∙◌}
 use Rattle.reader.specs.declared.faults.LineFault.{LineFault}
 use Rattle.reader.specs.Program.{outcome_line}
 use Rattle.reader.proofs.Rowed.{prints_more, prints_all}

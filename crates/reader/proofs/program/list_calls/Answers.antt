@@ -1,4 +1,4 @@
-use Rattle.std.proofs.Common.{◌≡◌, ◌+◌, List, [], ◌∷◌, ◌++◌, vec_items, sym, ap, ◌∙◌, subst, append-nil}
+use Rattle.std.proofs.Common.{◌+◌, List, [], ◌∷◌, vec_items, sym, ap, ◌∙◌, subst, append-nil}
 use Rattle.rows.specs.declared.Call.{Call}
 use Rattle.reader.proofs.Rowed.{Calls, calls_more, calls_all}
 use Rattle.reader.proofs.program.list_calls.Goals as goal
