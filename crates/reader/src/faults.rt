@@ -1,6 +1,6 @@
 // Why a line is refused.
 ghost use Rattle.std.specs.Prelude.{◌≡◌};
-ghost use Rattle.reader.specs.declared.faults.LineFault.TheVariants.{Workbook as of-workbook};
+ghost use Rattle.reader.specs.declared.faults.LineFault.TheVariants.{Workbook as of_workbook};
 ghost use Rattle.reader.specs.Faults.{refusal_of};
 
 use formula::{Details, Reason, Refusal};
@@ -31,7 +31,7 @@ impl LineFault {
 
 // A workbook's fault goes up as it is.
 impl From<WorkbookFault> for LineFault {
-    ghost from_gives = { λ e r. r ≡ of-workbook e };
+    ghost from_gives = { λ e r. r ≡ of_workbook e };
 
     fn from(fault: WorkbookFault) -> LineFault {
         LineFault::Workbook(fault)

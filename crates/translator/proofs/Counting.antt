@@ -3,7 +3,7 @@ use Rattle.std.proofs.Common.{◌≡◌, ℕ, ◌+◌, ◌*◌, ◌^◌, ◌<◌
 use native.Mathlib.Nat.{pow-le-pow_right}
 use Rattle.std.proofs.lemmas.List.{at_drop_more, at_drop_all}
 use Rattle.std.proofs.ByRecursion.{All-get_or}
-use Rattle.std.specs.List.{AllByRecursion as All}
+use Rattle.std.specs.List.{AllByRecursion}
 use Rattle.formula.specs.Boolean.{words_of}
 use Rattle.formula.specs.Tests.{sum_of, product_of}
 use Rattle.mapping.specs.Forms.{split, taken, distributed}
@@ -28,7 +28,7 @@ pub record Counted (ps : List PlacedForm) (i product literals : ℕ) : Type 0 wh
 pub counted_none : (ps : List PlacedForm) → Counted ps 0 1 0
 counted_none ps = record { by_splits = omega arith; by_taken = omega arith; product_few = omega arith; literals_few = omega arith }
 
-pub counted_more : (ps : List PlacedForm) (i product literals : ℕ) (d : PlacedForm) (s t : ℕ) → i < length ps → All Few ps → Counted ps i product literals →
+pub counted_more : (ps : List PlacedForm) (i product literals : ℕ) (d : PlacedForm) (s t : ℕ) → i < length ps → AllByRecursion Few ps → Counted ps i product literals →
     s ≡ split (form_in (get_or ps i d)) → t ≡ taken (form_in (get_or ps i d)) → Counted ps (i + 1) (product * s) (literals + t)
 counted_more ps i product literals d s t within few h s-is t-is =
     let small = held_few (get_or ps i d) (All-get_or Few ps i d within few) in

@@ -1,6 +1,6 @@
 -- Where the last Boolean of a clause's variables fits a store, so does every literal that is stored for it. Assumes nothing.
 use Rattle.std.proofs.Common.{◌≡◌, ℕ, ◌+◌, ◌-◌, ◌^◌, ◌≤◌, Bool, true, ltb, leb, List, [], ◌∷◌, ◌++◌, map, take, ℤ, pos, negsuc, sym, refl, ap, ◌∙◌, arith}
-use Rattle.std.specs.List.{flat_map, AllByRecursion as All}
+use Rattle.std.specs.List.{flat_map, AllByRecursion}
 use Rattle.std.proofs.lemmas.Bool.{and_parts, and_from, le-leb, leb-true, lt-ltb}
 use Rattle.formula.specs.Boolean.{Clause, number, local}
 use Rattle.formula.specs.Tests.{every}
@@ -85,7 +85,7 @@ module _ (L : ℕ) where
       by_kind AllOf = refl
       by_kind AnyOf = refl
 
-  pub all_small : L ≤ 2 ^ 31 - 1 → (ps : List PlacedForm) → All Few ps → every (form_fits L) (map form_in ps) ≡ true → All Small ps
+  pub all_small : L ≤ 2 ^ 31 - 1 → (ps : List PlacedForm) → AllByRecursion Few ps → every (form_fits L) (map form_in ps) ≡ true → AllByRecursion Small ps
   all_small bound [] few h = tt
   all_small bound (p ∷ ps) few h =
       let both = and_parts (form_fits L (form_in p)) (every (form_fits L) (map form_in ps)) h in (

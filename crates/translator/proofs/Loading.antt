@@ -2,7 +2,7 @@
 use Rattle.std.proofs.Common.{◌≡◌, ℕ, ◌+◌, ◌<◌, ◌≤◌, max, List, [], ◌∷◌, ◌++◌, map, length, get_or, take, drop, set, sym, ap, ◌∙◌, subst, arith}
 use Rattle.std.proofs.lemmas.List.{map_push, take_more, take_more_set, at_drop_more, at_drop_all}
 use Rattle.std.proofs.ByRecursion.{All-push}
-use Rattle.std.specs.List.{AllByRecursion as All}
+use Rattle.std.specs.List.{AllByRecursion}
 use Rattle.formula.specs.declared.signed.Literal.{Literal}
 use Rattle.mapping.specs.Meanings.{Meaning}
 use Rattle.translator.specs.declared.places.Place.{Place}
@@ -15,8 +15,8 @@ mapped_more f h xs ys i x d in-xs in_ys same here =
     ap (map f) (take_more_set xs i x in-xs) ∙ map_push f (take i xs) x ∙ (λ j. same j ++ here j ∷ [])
     ∙ sym (map_push h (take i ys) (get_or ys i d)) ∙ ap (map h) (sym (take_more ys i d in_ys))
 
-pub all_more_set : {X : Type 0} (P : X → Type 0) (xs : List X) (i : ℕ) (x : X) → i < length xs → All P (take i xs) → P x → All P (take (i + 1) (set xs i x))
-all_more_set P xs i x within all here = subst (All P) (sym (take_more_set xs i x within)) (All-push P (take i xs) x all here)
+pub all_more_set : {X : Type 0} (P : X → Type 0) (xs : List X) (i : ℕ) (x : X) → i < length xs → AllByRecursion P (take i xs) → P x → AllByRecursion P (take (i + 1) (set xs i x))
+all_more_set P xs i x within all here = subst (AllByRecursion P) (sym (take_more_set xs i x within)) (All-push P (take i xs) x all here)
 
 module _ (M : Meaning) (ps : List Place) (ls : List Literal) where
   -- the highest so far, and what is left, give the whole

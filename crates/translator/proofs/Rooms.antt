@@ -1,6 +1,6 @@
 -- What a store that has been asked for room can take. Assumes nothing.
 use Rattle.std.proofs.Common.{◌≡◌, ℕ, ◌≤◌, leb, List, map, length, take, ℤ, Ok, Err, Result, sym, ap, ◌∙◌, subst, ⊎_elim, arith}
-use Rattle.std.specs.List.{AllByRecursion as All}
+use Rattle.std.specs.List.{AllByRecursion}
 use Rattle.std.proofs.lemmas.List.{map-id}
 use Rattle.std.proofs.lemmas.Bool.{cases_Bool, cond-true, cond-false, leb-true}
 use Rattle.formula.specs.Boolean.{words_of}
@@ -38,7 +38,7 @@ module _ {Cell : Type 0} (T : Terms Cell) (K : Contents Cell) where
   -- the forms of a clause are loaded and counted, and the store is asked for room
   pub record Asked (M : Meaning) (ps : List Place) (ls : List Literal) (product : List PlacedForm) (h n : ℕ) (answer : Result (Unit {0}) StoreFault) : Type 0 where
     pub forms : map form_in product ≡ map (form_at M ps) ls
-    pub few : All Few product
+    pub few : AllByRecursion Few product
     pub short : length product ≤ 16
     pub highest : h ≡ reach M ps ls
     pub counted : n ≡ words_of (distributed (map form_in product))

@@ -1,6 +1,6 @@
 -- How code holds a form: its kind, how many literals it has, and those, over its variable's own Booleans. Assumes nothing.
 use Rattle.std.specs.Prelude.{◌≡◌, ℕ, ◌+◌, ◌*◌, ◌^◌, ◌≤◌, true, List, ◌++◌, map, length, take, ℤ, nat_lt}
-use Rattle.std.specs.List.{AllByRecursion as All}
+use Rattle.std.specs.List.{AllByRecursion}
 use Rattle.formula.specs.Boolean.{Clause, number, words_of}
 use Rattle.formula.specs.Tests.{every}
 use Rattle.mapping.specs.Forms.{Form, all_of, any_of, shifted, shifted_form, distributed}
@@ -41,6 +41,6 @@ pub record Small (p : PlacedForm) : Type 0 where
 
 -- what the recursion over a product's forms asks: places for the literals still to come, and a store that can take every clause
 pub record Ready {Cell : Type 0} (T : Terms Cell) (K : Contents Cell) (front : List ℤ) (used : ℕ) (ps : List PlacedForm) : Type 0 where
-  pub small : All Small ps
+  pub small : AllByRecursion Small ps
   pub space : used + 8 * length ps ≤ 128
   pub takes : Takes T K (product_behind (take used front) ps)

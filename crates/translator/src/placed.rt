@@ -1,6 +1,6 @@
 // The forms of a clause, copied from the mapping, and the words of their product.
 ghost use Rattle.std.specs.Prelude.{◌≡◌, ◌+◌, ◌^◌, ◌<◌, ◌≤◌, map, length, take, ℤ};
-ghost use Rattle.std.specs.List.{AllByRecursion as All};
+ghost use Rattle.std.specs.List.{AllByRecursion};
 ghost use Rattle.formula.specs.Boolean.{number, words_of};
 ghost use Rattle.mapping.specs.Forms.{shifted, distributed};
 ghost use Rattle.translator.specs.Places.{place_at, form_at, reach};
@@ -73,7 +73,7 @@ pub(crate) fn load_forms<M: Mapping>(
 )
     requires { length literals.now ≤ 16 }
     ensures forms { map form_in (take (length literals.now) forms.new) ≡ map (form_at M.Mapping.meaning places.now) literals.now }
-    ensures few { All Few (take (length literals.now) forms.new) }
+    ensures few { AllByRecursion Few (take (length literals.now) forms.new) }
 {
     for i in 0..literals.len() {
         forms[i] = load_form(mapping, places, &literals[i]);

@@ -1,6 +1,6 @@
 // Every clause of a product of forms, put into a store.
 ghost use Rattle.std.specs.Prelude.{◌≡◌, ◌+◌, ◌<◌, ◌≤◌, List, ◌++◌, map, length, take, pos, Ok, slice_index_or, slice_set};
-ghost use Rattle.std.specs.List.{AllByRecursion as All};
+ghost use Rattle.std.specs.List.{AllByRecursion};
 ghost use Rattle.formula.specs.Boolean.{words_of};
 ghost use Rattle.mapping.specs.Forms.{distributed, split, taken};
 ghost use Rattle.translator.specs.Filing.{with_all};
@@ -37,7 +37,7 @@ fn taken_of(form: &PlacedForm) -> u64
 
 // The words of the clauses of a product of at most 16 forms: as many clauses as the splits multiply to, each with its literals and one for its end.
 pub(crate) fn count_words(forms: &[PlacedForm]) -> u64
-    requires { (All Few forms.now) × (length forms.now ≤ 16) }
+    requires { (AllByRecursion Few forms.now) × (length forms.now ≤ 16) }
     ensures { result ≡ words_of (distributed (map form_in forms.now)) }
 {
     let mut product = 1u64;

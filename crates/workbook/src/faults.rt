@@ -1,6 +1,6 @@
 // Why a workbook refuses a call.
 ghost use Rattle.std.specs.Prelude.{◌≡◌};
-ghost use Rattle.workbook.specs.declared.faults.WorkbookFault.TheVariants.{Store as of-store};
+ghost use Rattle.workbook.specs.declared.faults.WorkbookFault.TheVariants.{Store as of_store};
 ghost use Rattle.workbook.specs.Faults.{refusal_of};
 
 use formula::{Details, Reason, Refusal};
@@ -41,7 +41,7 @@ impl WorkbookFault {
 
 // A store's fault goes up as it is.
 impl From<StoreFault> for WorkbookFault {
-    ghost from_gives = { λ e r. r ≡ of-store e };
+    ghost from_gives = { λ e r. r ≡ of_store e };
 
     fn from(fault: StoreFault) -> WorkbookFault {
         WorkbookFault::Store(fault)

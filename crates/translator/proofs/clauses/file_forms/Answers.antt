@@ -1,6 +1,6 @@
 use Rattle.std.proofs.Common.{◌≡◌, ℕ, ◌-◌, ◌≤◌, List, [], map, length, take, Err, Result, sym, refl, ap, ◌∙◌, subst, arith}
 use native.Mathlib.Nat.{sub-zero}
-use Rattle.std.specs.List.{AllByRecursion as All}
+use Rattle.std.specs.List.{AllByRecursion}
 use Rattle.std.proofs.lemmas.List.{length-take}
 use Rattle.std.proofs.lemmas.Result.{err_from_is_err_and}
 use Rattle.formula.specs.Boolean.{words_of}
@@ -25,12 +25,12 @@ part_is : (forms : List PlacedForm) (n : ℕ) → part forms n ≡ take n forms
 part_is forms n = ap (λ (k : ℕ). take k forms) (sub-zero n)
 
 asked : {Cell : Type 0} (T : Terms Cell) (K : Contents Cell) (M : Meaning) (ps : List Place) (ls : List Literal) (forms : List PlacedForm) (h n : ℕ) (answer : Result (Unit {0}) StoreFault) →
-    map form_in (take (length ls) forms) ≡ map (form_at M ps) ls → All Few (take (length ls) forms) → length ls ≤ 16 →
+    map form_in (take (length ls) forms) ≡ map (form_at M ps) ls → AllByRecursion Few (take (length ls) forms) → length ls ≤ 16 →
     h ≡ reach M ps ls → n ≡ words_of (distributed (map form_in (part forms (length ls)))) → answer ≡ room_answer T K h n →
     Asked T K M ps ls (part forms (length ls)) h n answer
 asked T K M ps ls forms h n answer loaded few within highest counted said = record {
   forms = ap (map form_in) (part_is forms (length ls)) ∙ loaded;
-  few = subst (All Few) (sym (part_is forms (length ls))) few;
+  few = subst (AllByRecursion Few) (sym (part_is forms (length ls))) few;
   short = omega (arith, length-take (length ls - 0) forms);
   highest = highest;
   counted = counted;

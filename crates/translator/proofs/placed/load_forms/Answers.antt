@@ -1,6 +1,6 @@
 use Rattle.std.proofs.Common.{◌≡◌, map, length, take, ap, ◌∙◌, subst, arith, length-set}
 use Rattle.std.proofs.lemmas.List.{take_all}
-use Rattle.std.specs.List.{AllByRecursion as All}
+use Rattle.std.specs.List.{AllByRecursion}
 use Rattle.translator.specs.Placed.{form_in, Few}
 use Rattle.translator.specs.Places.{form_at}
 use Rattle.translator.proofs.Loading.{mapped_more, all_more_set}
@@ -20,5 +20,5 @@ returns g c =
       forms =
           subst (λ n. map form_in (take n c.loop-i.forms) ≡ map (form_at g.M.Mapping.meaning c.args.places.now) c.args.literals.now) all
           (c.loop-i.invariant.0 ∙ ap (map (form_at g.M.Mapping.meaning c.args.places.now)) (take_all c.loop-i.i c.args.literals.now (omega arith)));
-      few = subst (λ n. All Few (take n c.loop-i.forms)) all c.loop-i.invariant.1;
+      few = subst (λ n. AllByRecursion Few (take n c.loop-i.forms)) all c.loop-i.invariant.1;
     }
