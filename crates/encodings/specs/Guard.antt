@@ -67,7 +67,7 @@ module _ (M : Meaning) (m : ℕ) (bits : List ℕ) where
   reading_no_row r = cond-false (is_size m && row (M.width m) bits) (M.reading m bits) None (and_right (is_size m) (row (M.width m) bits) r)
 
 -- where a guarded reading is a value, the bits are a row and the reading is what is guarded
-read_within : (s r : Bool) (o : Option ℕ) (i : ℕ) → cond (s && r) o None ≡ Some i → (r ≡ true) × (o ≡ Some i)
+pub read_within : (s r : Bool) (o : Option ℕ) (i : ℕ) → cond (s && r) o None ≡ Some i → (r ≡ true) × (o ≡ Some i)
 read_within true true o i e = (refl, e)
 read_within true false o i e = (cc, cc)
 read_within false r o i e = (cc, cc)

@@ -99,7 +99,7 @@ pub full_regular_lawful : Lawful full_regular
 full_regular_lawful = lists_keep (λ m. m - 1) links bounds lists_at
 
 -- a row of FR reads as one more than its ones where no 1 follows a 0
-reading_falls : (m : ℕ) (bits : List ℕ) → is_size m ≡ true → (r f : Bool) → row (m - 1) bits ≡ r → falls bits ≡ f →
+pub reading_falls : (m : ℕ) (bits : List ℕ) → is_size m ≡ true → (r f : Bool) → row (m - 1) bits ≡ r → falls bits ≡ f →
     full_regular.reading m bits ≡ cond (r && f) (Some (suc (ones bits))) None
 reading_falls m bits s true true r f = reading_within full_regular_within m s bits r ∙
     read_shown links full_regular_within.form m bits (suc (ones bits)) (falls_where m s bits r ∙ f)

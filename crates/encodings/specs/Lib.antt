@@ -13,3 +13,11 @@ pub mod Rows
 pub mod Links
 pub mod Writing
 pub mod Scans
+pub mod Digits
+pub mod FullLogarithmic
+pub mod HalfRegular
+pub mod Logarithmic
+pub mod Regular
+pub mod Standard
+pub mod Ties
+pub mod Values

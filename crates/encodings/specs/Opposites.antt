@@ -46,7 +46,7 @@ opposite_number (negsuc n) = refl
 pub opposite_local : (w : ℕ) (l : ℤ) → local w (opposite l) ≡ local w l
 opposite_local w l = ap (λ n. nat_le 1 n && nat_le n w) (opposite_number l)
 
-opposites_local : (w : ℕ) (ls : List ℤ) → every (local w) (map opposite ls) ≡ every (local w) ls
+pub opposites_local : (w : ℕ) (ls : List ℤ) → every (local w) (map opposite ls) ≡ every (local w) ls
 opposites_local w [] = refl
 opposites_local w (l ∷ ls) = ap₂ ◌&&◌ (opposite_local w l) (opposites_local w ls)
 

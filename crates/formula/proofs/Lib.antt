@@ -1,1 +1,3 @@
+pub mod Assignments
+pub mod Sums
 pub mod Tests

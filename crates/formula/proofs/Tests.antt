@@ -1,7 +1,16 @@
 -- Tests and sums over a list, by its parts. Assumes nothing.
-use Rattle.std.proofs.Common.{◌≡◌, ℕ, zero, suc, ◌+◌, ◌<◌, Bool, true, List, [], ◌∷◌, ◌++◌, map, length, get_or, refl, ap₂, arith}
+use Rattle.std.proofs.Common.{◌≡◌, ℕ, zero, suc, ◌+◌, ◌<◌, Bool, true, false, ◌&&◌, List, [], ◌∷◌, ◌++◌, map, length, get_or, sym, refl, ap, ◌∙◌, ap₂, arith}
+use Rattle.std.specs.List.{flat_map}
 use Rattle.std.proofs.lemmas.Bool.{and_parts, and_from}
 use Rattle.formula.specs.Tests.{every, sum_of}
+
+and_assoc : (a b c : Bool) → ((a && b) && c) ≡ (a && (b && c))
+and_assoc true b c = refl
+and_assoc false b c = refl
+
+pub and_true : (b : Bool) → (b && true) ≡ b
+and_true true = refl
+and_true false = refl
 
 module _ {X : Type 0} (p : X → Bool) where
   pub every_append : (xs ys : List X) → every p xs ≡ true → every p ys ≡ true → every p (xs ++ ys) ≡ true
@@ -9,6 +18,15 @@ module _ {X : Type 0} (p : X → Bool) where
   every_append (x ∷ xs) ys h k =
       let parts = and_parts (p x) (every p xs) h in
       and_from (p x) (every p (xs ++ ys)) parts.0 (every_append xs ys parts.1 k)
+
+  -- a test of both parts
+  pub every_both : (xs ys : List X) → every p (xs ++ ys) ≡ (every p xs && every p ys)
+  every_both [] ys = refl
+  every_both (x ∷ xs) ys = ap (λ t. p x && t) (every_both xs ys) ∙ sym (and_assoc (p x) (every p xs) (every p ys))
+
+  pub every_joined : {Y : Type 0} (f : Y → List X) (ys : List Y) → every p (flat_map f ys) ≡ every (λ y. every p (f y)) ys
+  every_joined f [] = refl
+  every_joined f (y ∷ ys) = every_both (f y) (flat_map f ys) ∙ ap (λ t. every p (f y) && t) (every_joined f ys)
 
   pub every_push : (xs : List X) (x : X) → every p xs ≡ true → p x ≡ true → every p (xs ++ x ∷ []) ≡ true
   every_push xs x h k = every_append xs (x ∷ []) h (and_from (p x) true k refl)

@@ -1,5 +1,5 @@
 -- Tests, sums and products over a list. Assumes nothing.
-use Rattle.std.specs.Prelude.{ℕ, ◌+◌, ◌*◌, Bool, true, false, ◌&&◌, ◌||◌, List, [], ◌∷◌}
+use Rattle.std.specs.Prelude.{ℕ, ◌+◌, ◌*◌, Bool, true, false, cond, ◌&&◌, ◌||◌, List, [], ◌∷◌}
 
 -- each element passes the test
 abbrev pub every : {X : Type 0} → (X → Bool) → List X → Bool
@@ -20,3 +20,7 @@ sum_of f (x ∷ xs) = f x + sum_of f xs
 abbrev pub product_of : {X : Type 0} → (X → ℕ) → List X → ℕ
 product_of f [] = 1
 product_of f (x ∷ xs) = f x * product_of f xs
+
+-- the number of elements that pass the test
+abbrev pub count : {X : Type 0} → (X → Bool) → List X → ℕ
+count test xs = sum_of (λ x. cond (test x) 1 0) xs

@@ -1,3 +1,4 @@
+pub mod Counts
 pub mod Forms
 pub mod Meanings
 pub mod Memory

@@ -7,7 +7,10 @@ ghost use Rattle.mapping.specs.Meanings.{Meaning, Lawful};
 ghost use Rattle.mapping.specs.Memory.{flat, over};
 ghost use Rattle.formula.specs.Boolean.{words_of};
 
+pub mod limits;
+
 use formula::Sign;
+pub use limits::{in_sizes, in_values};
 
 // Whether a form asks for all of its literals or for one of them.
 #[derive(Clone, Copy)]

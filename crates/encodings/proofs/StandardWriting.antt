@@ -1,0 +1,143 @@
+-- S's axioms written into memory.
+use Rattle.std.proofs.Common.{◌≡◌, ℕ, suc, ◌+◌, ◌-◌, ◌*◌, ◌<◌, ◌≤◌, List, [], ◌∷◌, ◌++◌, map, length, take, drop, set, ℤ, pos, sym, refl, ap, ◌∙◌, subst, ap₂, ⊎_elim, arith}
+use borrow.Rule.Slice.PartMut.{put_mid}
+use Rattle.std.proofs.lemmas.List.{length_push}
+use Rattle.std.proofs.lemmas.Bool.{cases_lt}
+use Rattle.formula.proofs.Tests.{sum_append}
+use Rattle.formula.specs.Boolean.{Clause, opposite, words, words_of}
+use Rattle.formula.specs.Sheets.{numbers}
+use Rattle.mapping.proofs.Moving.{length_flat}
+use Rattle.mapping.specs.Memory.{ended, flat, over, written}
+use Rattle.encodings.specs.Standard.{some_value, not_both, exclusions}
+use Rattle.encodings.specs.Values.{value_literal}
+use Rattle.encodings.proofs.Exclusions.{excluded, exclusions_are, some_length}
+use Rattle.encodings.specs.Runs.{numbers_more, numbers_none, words_numbers}
+use Rattle.encodings.proofs.Appending.{Appending, appending_none, appending_one, appending_all, over_written, written_part, written_start}
+use Rattle.encodings.proofs.Writing.{Writing, writing_none, writing_pair, writing_all, writing_part}
+
+some_words : (m : ℕ) → length (ended (some_value m)) ≡ m + 1
+some_words m = length_push (some_value m) (pos 0) ∙ ap (λ n. n + 1) (some_length m)
+
+-- the words of "some value" that are left once k of them are written
+abbrev pub values_left : ℕ → ℕ → List ℤ
+values_left m k = ended (map value_literal (numbers (suc k) (m - k)))
+
+pub values_none : (memory : List ℤ) (m : ℕ) → Appending memory memory 0 0 (values_left m 0) (ended (some_value m))
+values_none memory m =
+    let all : m - 0 ≡ m = omega arith in
+    subst (λ n. Appending memory memory 0 0 (ended (map value_literal (numbers 1 n))) (ended (some_value m))) (sym all) (appending_none memory 0 (ended (some_value m)))
+
+module _ (before memory : List ℤ) (m k : ℕ) where
+  pub values_more : (x : ℤ) → k < m → m < length before → x ≡ pos (k + 1) →
+      Appending before memory 0 k (values_left m k) (ended (some_value m)) → Appending before (set memory k x) 0 (k + 1) (values_left m (k + 1)) (ended (some_value m))
+  values_more x h l e w =
+      let left : m - k ≡ suc (m - (k + 1)) = omega arith in
+      let next : suc k ≡ k + 1 = omega arith in
+      let parts : values_left m k ≡ x ∷ values_left m (k + 1) =
+      ap (λ n. ended (map value_literal (numbers (suc k) n))) left ∙
+      ap₂ (λ y j. y ∷ ended (map value_literal (numbers (suc j) (m - (k + 1))))) (ap pos next ∙ sym e) next in
+      appending_one before memory 0 k x (values_left m (k + 1)) (ended (some_value m))
+      (omega arith) (subst (λ ws. Appending before memory 0 k ws (ended (some_value m))) parts w)
+
+  -- the 0 behind them ends the clause
+  pub values_all : k ≡ m → m < length before → Appending before memory 0 k (values_left m k) (ended (some_value m)) →
+      set memory m (pos 0) ≡ over (ended (some_value m)) before
+  values_all e l w =
+      let left : m - k ≡ 0 = omega arith in
+      let none : values_left m k ≡ pos 0 ∷ [] = ap (λ n. ended (map value_literal (numbers (suc k) n))) left in
+      let last = appending_one before memory 0 k (pos 0) [] (ended (some_value m))
+      (omega arith) (subst (λ ws. Appending before memory 0 k ws (ended (some_value m))) none w) in
+      ap (λ n. set memory n (pos 0)) (sym e) ∙ ((appending_all before (set memory k (pos 0)) 0 (k + 1) (ended (some_value m)) last).1 ∙ written_start before (ended (some_value m)))
+
+-- the exclusions of value v and each that follows it, and those of them that are left from value j on
+abbrev pub pairs_of : ℕ → ℕ → List Clause
+pairs_of m v = map (not_both v) (numbers (suc v) (m - v))
+
+abbrev pub pairs_left : ℕ → ℕ → ℕ → List Clause
+pairs_left m v j = map (not_both v) (numbers j (m + 1 - j))
+
+pairs_first : (m v : ℕ) → pairs_left m v (v + 1) ≡ pairs_of m v
+pairs_first m v =
+    let next : v + 1 ≡ suc v = omega arith in
+    let left : m + 1 - (v + 1) ≡ m - v = omega arith in
+    ap₂ (λ j n. map (not_both v) (numbers j n)) next left
+
+pub pairs_words : (m v : ℕ) → words_of (pairs_of m v) ≡ 3 * (m - v)
+pairs_words m v = words_numbers (not_both v) 3 (suc v) (m - v) (λ k. refl) ∙ omega arith
+
+pub pairs_none : (memory : List ℤ) (m v : ℕ) → Writing memory memory 0 (pairs_left m v (v + 1)) (pairs_of m v)
+pairs_none memory m v = subst (λ cs. Writing memory memory 0 cs (pairs_of m v)) (sym (pairs_first m v)) (writing_none memory (pairs_of m v))
+
+module _ (before memory : List ℤ) (n m v j : ℕ) where
+  pub pairs_more : (x y : ℤ) → j ≤ m → n + 3 ≤ length before → x ≡ opposite (value_literal v) → y ≡ opposite (value_literal j) →
+      Writing before memory n (pairs_left m v j) (pairs_of m v) →
+      Writing before (set (set (set memory n x) (n + 1) y) (n + 2) (pos 0)) (n + 3) (pairs_left m v (j + 1)) (pairs_of m v)
+  pairs_more x y h l first second w =
+      let left = pairs_left m v (j + 1) in
+      let parts : pairs_left m v j ≡ (x ∷ y ∷ []) ∷ left =
+      ap (map (not_both v)) (numbers_more j (m + 1) (omega arith)) ∙ ap₂ (λ (a b : ℤ). (a ∷ b ∷ []) ∷ left) (sym first) (sym second) in
+      writing_pair before memory n x y left (pairs_of m v) l (subst (λ cs. Writing before memory n cs (pairs_of m v)) parts w)
+
+  pub pairs_all : m < j → Writing before memory n (pairs_left m v j) (pairs_of m v) → (n ≡ 3 * (m - v)) × (memory ≡ over (flat (pairs_of m v)) before)
+  pairs_all h w =
+      let all = writing_all before memory n (pairs_of m v)
+      (subst (λ js. Writing before memory n (map (not_both v) js) (pairs_of m v)) (numbers_none j (m + 1) (omega arith)) w) in
+      (all.0 ∙ pairs_words m v, all.1)
+
+-- the exclusions of the values from j on
+abbrev pub exclusions_left : ℕ → ℕ → List Clause
+exclusions_left m j = excluded j (m + 1 - j)
+
+exclusions_parts : (m j : ℕ) → j ≤ m → exclusions_left m j ≡ pairs_of m j ++ exclusions_left m (j + 1)
+exclusions_parts m j h =
+    let left : m + 1 - j ≡ suc (m - j) = omega arith in
+    let rest : m - j ≡ m + 1 - (j + 1) = omega arith in
+    let next : suc j ≡ j + 1 = omega arith in
+    ap (excluded j) left ∙ ap₂ (λ k n. pairs_of m j ++ excluded k n) next rest
+
+-- the last value has none
+exclusions_last : (m j : ℕ) → m ≤ j → exclusions_left m j ≡ []
+exclusions_last m j h =
+    ⊎_elim (λ l. let none : m + 1 - j ≡ 0 = omega arith in ap (excluded j) none)
+    (λ l. let one : m + 1 - j ≡ 1 = omega arith in ap (excluded j) one) (cases_lt m j)
+
+pub exclusions_none : (memory : List ℤ) (m : ℕ) → Writing memory memory 0 (exclusions_left m 1) (exclusions m)
+exclusions_none memory m =
+    let all : m + 1 - 1 ≡ m = omega arith in
+    subst (λ cs. Writing memory memory 0 cs (exclusions m)) (exclusions_are m ∙ ap (excluded 1) (sym all)) (writing_none memory (exclusions m))
+
+-- where all of them fit, those of the next value do
+pub exclusions_room : (before memory : List ℤ) (n m j : ℕ) → words_of (exclusions m) ≤ length before → Writing before memory n (exclusions_left m j) (exclusions m) →
+    (n + 3 * (m - j) ≤ length before) × Writing before memory n (exclusions_left m j) (exclusions m)
+exclusions_room before memory n m j h w =
+    let sum = w.words in
+    let all = length_flat (exclusions m) in
+    let left = length_flat (exclusions_left m j) in
+    let first = pairs_words m j in
+    let room : n + 3 * (m - j) ≤ length before =
+    ⊎_elim (λ l. omega arith)
+    (λ l. let parts = ap words_of (exclusions_parts m j l) ∙ sum_append words (pairs_of m j) (exclusions_left m (j + 1)) in omega arith)
+    (cases_lt m j) in
+    (room, w)
+
+module _ (before memory : List ℤ) (n m j : ℕ) where
+  pub exclusions_more : (part : List ℤ) (k long : ℕ) → j ≤ m → long ≡ length memory → words_of (exclusions m) ≤ length before → k ≡ 3 * (m - j) →
+      part ≡ over (flat (pairs_of m j)) (take (long - n) (drop n memory)) → Writing before memory n (exclusions_left m j) (exclusions m) →
+      Writing before (put_mid n (long - n) memory part) (n + k) (exclusions_left m (j + 1)) (exclusions m)
+  exclusions_more part k long h l r e p w =
+      let count : k ≡ words_of (pairs_of m j) = e ∙ sym (pairs_words m j) in
+      let after = writing_part before memory part n long (pairs_of m j) (exclusions_left m (j + 1)) (exclusions m) l r p
+      (subst (λ cs. Writing before memory n cs (exclusions m)) (exclusions_parts m j h) w) in
+      subst (λ c. Writing before (put_mid n (long - n) memory part) (n + c) (exclusions_left m (j + 1)) (exclusions m)) (sym count) after
+
+  pub exclusions_all : m ≤ j → Writing before memory n (exclusions_left m j) (exclusions m) →
+      (n ≡ words_of (exclusions m)) × (memory ≡ over (flat (exclusions m)) before)
+  exclusions_all h w = writing_all before memory n (exclusions m) (subst (λ cs. Writing before memory n cs (exclusions m)) (exclusions_last m j h) w)
+
+-- the exclusions behind "some value" are all of the axioms
+pub axioms_all : (before memory part : List ℤ) (n long m : ℕ) → n ≡ m + 1 → long ≡ length memory → memory ≡ over (ended (some_value m)) before →
+    part ≡ over (flat (exclusions m)) (take (long - n) (drop n memory)) →
+    put_mid n (long - n) memory part ≡ over (flat (some_value m ∷ exclusions m)) before
+axioms_all before memory part n long m count l first second =
+    written_part memory part n long (flat (exclusions m)) l second ∙
+    (ap (λ x. written x n (flat (exclusions m))) first ∙ over_written before n (ended (some_value m)) (flat (exclusions m)) (omega (arith, some_words m)))

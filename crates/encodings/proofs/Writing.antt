@@ -1,0 +1,36 @@
+-- Clauses written at the front of memory.
+use Rattle.std.proofs.Common.{◌≡◌, ℕ, ◌+◌, ◌-◌, ◌≤◌, List, [], ◌∷◌, ◌++◌, length, take, drop, set, ℤ, pos, ap, ◌∙◌, subst, arith, length-append}
+use borrow.Rule.Slice.PartMut.{put_mid}
+use Rattle.formula.specs.Boolean.{Clause, words_of}
+use Rattle.mapping.proofs.Moving.{length_flat, flat_append}
+use Rattle.mapping.specs.Memory.{flat, over}
+use Rattle.encodings.proofs.Appending.{Appending, appending_none, appending_all, appending_three, appending_many, written_start, written_part}
+
+-- a pass over clauses: with n words written, the clauses that are left make memory what it is to be
+abbrev pub Writing : List ℤ → List ℤ → ℕ → List Clause → List Clause → Type 0
+Writing before memory n rest all = Appending before memory 0 n (flat rest) (flat all)
+
+pub writing_none : (memory : List ℤ) (all : List Clause) → Writing memory memory 0 all all
+writing_none memory all = appending_none memory 0 (flat all)
+
+pub writing_all : (before memory : List ℤ) (n : ℕ) (all : List Clause) → Writing before memory n [] all →
+    (n ≡ words_of all) × (memory ≡ over (flat all) before)
+writing_all before memory n all w =
+    let done = appending_all before memory 0 n (flat all) w in (omega (arith, done.0, length_flat all), done.1 ∙ written_start before (flat all))
+
+-- a clause of two literals
+pub writing_pair : (before memory : List ℤ) (n : ℕ) (x y : ℤ) (rest all : List Clause) → n + 3 ≤ length before →
+    Writing before memory n ((x ∷ y ∷ []) ∷ rest) all → Writing before (set (set (set memory n x) (n + 1) y) (n + 2) (pos 0)) (n + 3) rest all
+writing_pair before memory n x y rest all h w = appending_three before memory 0 n x y (pos 0) (flat rest) (flat all) h w
+
+-- clauses written into the part of memory that is left, which was lent
+pub writing_part : (before memory part : List ℤ) (n long : ℕ) (cs rest all : List Clause) → long ≡ length memory → words_of all ≤ length before →
+    part ≡ over (flat cs) (take (long - n) (drop n memory)) → Writing before memory n (cs ++ rest) all →
+    Writing before (put_mid n (long - n) memory part) (n + words_of cs) rest all
+writing_part before memory part n long cs rest all m h e w =
+    let parts = ap length (flat_append cs rest) in
+    let sum = w.words in
+    subst (λ k. Writing before (put_mid n (long - n) memory part) (n + k) rest all) (length_flat cs)
+    (appending_many before memory (put_mid n (long - n) memory part) 0 n (flat cs) (flat rest) (flat all)
+    (omega (arith, length_flat all, length-append (flat cs) (flat rest))) (written_part memory part n long (flat cs) m e)
+    (subst (λ ws. Appending before memory 0 n ws (flat all)) (flat_append cs rest) w))

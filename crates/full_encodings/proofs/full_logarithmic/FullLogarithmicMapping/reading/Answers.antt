@@ -1,0 +1,54 @@
+-- The pass over the digits gives the number, and the number the reading.
+use Rattle.std.proofs.Common.{Some, sym, refl, ap, ◌∙◌, arith, rules}
+use Rattle.std.proofs.lemmas.Bool.{cond_below, cond_above}
+use Rattle.encodings.specs.FullLogarithmic.{full_logarithmic_within}
+use Rattle.encodings.proofs.DigitCounts.{weight_few, power_doubled}
+use Rattle.encodings.specs.Guard.{reading_no_row}
+use Rattle.encodings.specs.Rows.{row_refused}
+use Rattle.encodings.proofs.Weighing.{weighing_zero, weighing_one, reading_ended, reading_stopped}
+use Rattle.full_encodings.proofs.full_logarithmic.FullLogarithmicMapping.reading.Goals as goal
+use Rattle.full_encodings.proofs.full_logarithmic.FullLogarithmicMapping.reading.Goals.{in-0, in-1}
+
+pub returns-then-bits-count : goal.returns-then-bits-count
+returns-then-bits-count c =
+    sym (reading_no_row full_logarithmic_within c.args.size c.args.bits.now
+    (row_refused _ c.args.bits.now (λ e. c.if-bits-count.true (e ∙ sym c.of_size-count.ensures.count))))
+
+pub overflow_add-number : goal.overflow_add-number
+overflow_add-number c =
+    let found = c.of_size-count.ensures.count in
+    let few = weight_few c.args.size (sym c.if-not-in_sizes.ensures) _ c.loop-bit.bit-index c.loop-bit.weight found (omega arith) c.loop-bit.invariant.1 in
+    search rules
+
+pub overflow_mul-weight : goal.overflow_mul-weight
+overflow_mul-weight c =
+    let found = c.of_size-count.ensures.count in
+    let few = weight_few c.args.size (sym c.if-not-in_sizes.ensures) _ c.loop-bit.bit-index c.loop-bit.weight found (omega arith) c.loop-bit.invariant.1 in
+    search rules
+
+pub loop-bit-preserved : goal.loop-bit-preserved
+loop-bit-preserved c =
+    elim c.match-bit.branch [
+      | in-0 w ↦ let n = w.number-is in
+          (omega arith, power_doubled _ _ c.loop-bit.invariant.1, weighing_zero _ _ c.loop-bit.number _ c.loop-bit-test.true _ w.in-0.is n ∙ c.loop-bit.invariant.2)
+      | in-1 w ↦ let n = w.number-is in
+          (omega arith, power_doubled _ _ c.loop-bit.invariant.1, weighing_one _ _ c.loop-bit.number _ c.loop-bit-test.true _ w.in-1.is n ∙ c.loop-bit.invariant.2)
+    ]
+
+pub returns-in_default : goal.returns-in_default
+returns-in_default c =
+    let found = c.of_size-count.ensures in
+    sym (reading_stopped c.args.size c.args.bits.now _ _ _ _ c.loop-bit.bit-index (sym c.if-not-in_sizes.ensures)
+    found.count found.spare c.if-bits-count.false c.loop-bit.invariant.2 c.loop-bit-test.true (omega arith))
+
+pub returns-then-number-spare : goal.returns-then-number-spare
+returns-then-number-spare c =
+    let found = c.of_size-count.ensures in
+    ap Some (cond_below _ _ _ _ c.if-number-spare.true) ∙ sym (reading_ended c.args.size c.args.bits.now _ _ _ _ _ (sym c.if-not-in_sizes.ensures)
+    found.count found.spare c.if-bits-count.false c.loop-bit.invariant.2 c.loop-bit-test.false)
+
+pub returns-else-number-spare : goal.returns-else-number-spare
+returns-else-number-spare c =
+    let found = c.of_size-count.ensures in
+    ap Some (cond_above _ _ _ _ _ c.if-number-spare.false refl) ∙ sym (reading_ended c.args.size c.args.bits.now _ _ _ _ _ (sym c.if-not-in_sizes.ensures)
+    found.count found.spare c.if-bits-count.false c.loop-bit.invariant.2 c.loop-bit-test.false)
