@@ -154,7 +154,7 @@ module _ (M : Meaning) (T : Tieable M) (m : ℕ) (s : is_size m ≡ true) where
     list_most = λ i v. omega arith;
   }
 
-  -- the half_tied forms: a plus by the value, a minus by the inner literals
+  -- the half-tied forms: a plus by the value, a minus by the inner literals
   half_shows : (bits : List ℕ) → row (m + w) bits ≡ true → satisfies bits (tied_axioms M m) ≡ true → (i : ℕ) × Shows m (half_form M m) bits i
   half_shows bits r holds = let shown = shows_tied bits r holds in (shown.0, (shown.1.value, at_sign shown.0 shown.1))
     where

@@ -35,7 +35,7 @@ module _ (inner : Meaning) where
   abbrev pub tied : Meaning
   tied = meaning_by tied_width tied_axioms value_form
 
-  -- the half_tied one does so with a plus only, and with a minus by the opposites of the inner literals
+  -- the half-tied one does so with a plus only, and with a minus by the opposites of the inner literals
   abbrev pub half_form : ℕ → Sign → ℕ → Form
   half_form m Plus i = all_of (value_literal i ∷ [])
   half_form m Minus i = any_of (map opposite (inner_list m i))

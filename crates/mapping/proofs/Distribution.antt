@@ -15,7 +15,7 @@ words_fronted : (c : List ℤ) (ds : List Clause) → words_of (fronted ds c) �
 words_fronted c [] = omega arith
 words_fronted c (d ∷ ds) = omega (arith, words_fronted c ds, length-append c d)
 
--- every choice of an all_of form is one literal
+-- every choice of an all-of form is one literal
 joined_ones : (ls : List ℤ) (ds : List Clause) → words_of (flat_map (fronted ds) (map (λ l. l ∷ []) ls)) ≡ length ls * (length ds + words_of ds)
 joined_ones [] ds = omega arith
 joined_ones (l ∷ ls) ds =

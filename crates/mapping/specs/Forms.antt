@@ -37,7 +37,7 @@ abbrev pub shifted_form : ℕ → Form → Form
 shifted_form n (all_of ls) = all_of (map (shifted n) ls)
 shifted_form n (any_of ls) = any_of (map (shifted n) ls)
 
--- what a Boolean clause may take of a form: one member of an all_of form, every member of an any_of form
+-- what a Boolean clause may take of a form: one member of an all-of form, every member of an any-of form
 abbrev pub choices : Form → List (List ℤ)
 choices (all_of ls) = map (λ l. l ∷ []) ls
 choices (any_of ls) = ls ∷ []

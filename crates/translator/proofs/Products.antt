@@ -22,7 +22,7 @@ form_all p is = ap (λ (k : Kind). shifted_form p.start (of_kind k (take p.count
 pub form_any : (p : PlacedForm) → p.kind ≡ AnyOf → form_in p ≡ any_of (own_literals p)
 form_any p is = ap (λ (k : Kind). shifted_form p.start (of_kind k (take p.count p.literals))) is
 
--- what an all_of form's choices from the i-th on give, behind the literals of front
+-- what an all-of form's choices from the i-th on give, behind the literals of front
 abbrev pub left : List ℤ → List Clause → List ℤ → ℕ → List Clause
 left front ds ls i = map (λ d. front ++ d) (flat_map (fronted ds) (map (λ l. l ∷ []) (drop i ls)))
 
@@ -40,7 +40,7 @@ pub product_all : (front : List ℤ) (p : PlacedForm) (ps : List PlacedForm) →
     product_behind front (p ∷ ps) ≡ left front (distributed (map form_in ps)) (own_literals p) 0
 product_all front p ps is = ap (λ (f : Form). map (λ d. front ++ d) (distributed (f ∷ map form_in ps))) (form_all p is)
 
--- the one choice of an any_of form is all of its literals
+-- the one choice of an any-of form is all of its literals
 pub product_any : (front : List ℤ) (p : PlacedForm) (ps : List PlacedForm) → p.kind ≡ AnyOf →
     product_behind front (p ∷ ps) ≡ product_behind (front ++ own_literals p) ps
 product_any front p ps is =
@@ -51,7 +51,7 @@ product_any front p ps is =
 pub product_none : (front : List ℤ) → product_behind front [] ≡ front ∷ []
 product_none front = ap (λ c. c ∷ []) (append-nil front)
 
--- the clauses of an all_of form's first i choices are stored: what is left gives the whole
+-- the clauses of an all-of form's first i choices are stored: what is left gives the whole
 pub record Going {Cell : Type 0} (T T' : Terms Cell) (K₀ K : Contents Cell) (front₀ front : List ℤ) (used : ℕ) (p : PlacedForm) (ps : List PlacedForm) (i : ℕ) : Type 0 where
   pub terms : T' ≡ T
   pub whole : with_all T K (left (take used front₀) (distributed (map form_in ps)) (own_literals p) i) ≡ with_all T K₀ (left (take used front₀) (distributed (map form_in ps)) (own_literals p) 0)
