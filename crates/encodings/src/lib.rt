@@ -3,7 +3,7 @@
 
 pub mod digits;
 pub mod full_regular;
-pub mod literals;
+mod literals;
 pub mod names;
 mod ranges;
 
