@@ -1,9 +1,18 @@
 -- The table of refusals: number, word and layer of each reason. Assumes nothing.
-use Rattle.std.specs.Prelude.{ℕ, List, codes}
+use Rattle.std.specs.Prelude.{ℕ, List, ◌∷◌, [], ◌++◌, codes, decimal}
+use Rattle.formula.specs.declared.refusals.Details.{Details}
 use Rattle.formula.specs.declared.refusals.Layer.{Layer}
 use Rattle.formula.specs.declared.refusals.Layer.TheVariants as layers
 use Rattle.formula.specs.declared.refusals.Reason.{Reason}
 use Rattle.formula.specs.declared.refusals.Reason.TheVariants.{Size, NamesSpent, Long, Stranger, Value, SheetFull, NumbersSpent, WordsShort, Line}
+use Rattle.formula.specs.declared.refusals.Refusal.{Refusal}
+
+-- one detail, or none
+abbrev pub detail : ℕ → Details
+detail n = record { first = n; second = 0 }
+
+abbrev pub no_detail : Details
+no_detail = record { first = 0; second = 0 }
 
 -- L, W and S
 abbrev pub layer_letter : Layer → ℕ
@@ -43,3 +52,8 @@ reason_layer SheetFull = layers.Workbook
 reason_layer NumbersSpent = layers.Store
 reason_layer WordsShort = layers.Store
 reason_layer Line = layers.Line
+
+-- a refusal as it is printed: its number, the letter of its layer and both details
+abbrev pub refusal_text : Refusal → List ℕ
+refusal_text r =
+    decimal (reason_number r.reason) ++ (32 ∷ (layer_letter (reason_layer r.reason) ∷ 32 ∷ (decimal r.details.first ++ (32 ∷ decimal r.details.second))))

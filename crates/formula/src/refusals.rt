@@ -1,16 +1,18 @@
 // Refusals: why a call says no.
-ghost use Rattle.std.specs.Prelude.{◌≡◌};
-ghost use Rattle.formula.specs.Refusals.{layer_letter, reason_number, reason_word, reason_layer};
+ghost use Rattle.std.specs.Prelude.{◌≡◌, Some, ◌∷◌, []};
+ghost use Rattle.formula.specs.Refusals.{layer_letter, reason_number, reason_word, reason_layer, detail, refusal_text};
+
+use std::fmt;
 
 // The two numbers that a refusal carries, each 0 where none is named.
-#[derive(Clone, Copy)]
+#[derive(Clone, Copy, Debug, Default, PartialEq, Eq)]
 pub struct Details {
     pub first: u64,
     pub second: u64,
 }
 
 // The part that refuses.
-#[derive(Clone, Copy)]
+#[derive(Clone, Copy, Debug, PartialEq, Eq)]
 pub enum Layer {
     Line,
     Workbook,
@@ -18,7 +20,7 @@ pub enum Layer {
 }
 
 // Why: each reason has a number, a word and a layer.
-#[derive(Clone, Copy)]
+#[derive(Clone, Copy, Debug, PartialEq, Eq)]
 pub enum Reason {
     Size,
     NamesSpent,
@@ -32,18 +34,27 @@ pub enum Reason {
 }
 
 // A refusal as it is printed.
-#[derive(Clone, Copy)]
+#[derive(Clone, Copy, Debug, PartialEq, Eq)]
 pub struct Refusal {
     pub reason: Reason,
     pub details: Details,
 }
 
-impl Layer {
-    // The letter that a layer is printed as.
-    pub fn letter(self) -> u8
-        ensures { result ≡ layer_letter self }
-    {
-        match self {
+// One number that is named.
+impl From<u64> for Details {
+    ghost from_gives = { λ n d. d ≡ detail n };
+
+    fn from(first: u64) -> Details {
+        Details { first, second: 0 }
+    }
+}
+
+// The letter that a layer is printed as.
+impl From<Layer> for u8 {
+    ghost from_gives = { λ l b. b ≡ layer_letter l };
+
+    fn from(layer: Layer) -> u8 {
+        match layer {
             Layer::Line => b'L',
             Layer::Workbook => b'W',
             Layer::Store => b'S',
@@ -51,11 +62,19 @@ impl Layer {
     }
 }
 
-impl Reason {
-    pub fn number(self) -> u32
-        ensures { result ≡ reason_number self }
-    {
-        match self {
+impl fmt::Display for Layer {
+    ghost output = { λ l. Some (layer_letter l ∷ []) };
+
+    fn fmt<W: fmt::Write>(&self, f: &mut fmt::Formatter<W>) -> fmt::Result {
+        f.write_char(char::from(u8::from(*self)))
+    }
+}
+
+impl From<Reason> for u32 {
+    ghost from_gives = { λ r n. n ≡ reason_number r };
+
+    fn from(reason: Reason) -> u32 {
+        match reason {
             Reason::Size => 1,
             Reason::NamesSpent => 2,
             Reason::Long => 3,
@@ -67,11 +86,14 @@ impl Reason {
             Reason::Line => 15,
         }
     }
+}
 
-    pub fn word(self) -> &'static str
-        ensures { result.now ≡ reason_word self }
-    {
-        match self {
+// A reason's word.
+impl fmt::Display for Reason {
+    ghost output = { λ r. Some (reason_word r) };
+
+    fn fmt<W: fmt::Write>(&self, f: &mut fmt::Formatter<W>) -> fmt::Result {
+        f.write_str(match self {
             Reason::Size => "size",
             Reason::NamesSpent => "names spent",
             Reason::Long => "long",
@@ -81,9 +103,11 @@ impl Reason {
             Reason::NumbersSpent => "numbers spent",
             Reason::WordsShort => "words short",
             Reason::Line => "line",
-        }
+        })
     }
+}
 
+impl Reason {
     pub fn layer(self) -> Layer
         ensures { result ≡ reason_layer self }
     {
@@ -92,5 +116,17 @@ impl Reason {
             Reason::Line => Layer::Line,
             _ => Layer::Workbook,
         }
+    }
+}
+
+// The number, the layer and both details.
+impl fmt::Display for Refusal {
+    ghost output = { λ r. Some (refusal_text r) };
+
+    fn fmt<W: fmt::Write>(&self, f: &mut fmt::Formatter<W>) -> fmt::Result {
+        let number = u32::from(self.reason);
+        let layer = self.reason.layer();
+        let Details { first, second } = self.details;
+        write!(f, "{number} {layer} {first} {second}")
     }
 }

@@ -1,41 +1,49 @@
 // Signed literals.
 ghost use Rattle.std.specs.Prelude.{◌≡◌};
-ghost use Rattle.formula.specs.Signs.{sign_byte, sign_of};
+ghost use Rattle.formula.specs.Signs.{sign_byte, Reads};
 
 // Whether a literal says that its variable has the value, or that it has another.
-#[derive(Clone, Copy)]
+#[derive(Clone, Copy, Debug, PartialEq, Eq)]
 pub enum Sign {
     Plus,
     Minus,
 }
 
 // A signed literal: a variable, numbered from 1, a value of it, numbered from 1, and a sign.
-#[derive(Clone, Copy)]
+#[derive(Clone, Copy, Debug, PartialEq, Eq)]
 pub struct Literal {
     pub variable: u32,
     pub value: u32,
     pub sign: Sign,
 }
 
-impl Sign {
-    // The byte that a sign is written as.
-    pub fn byte(self) -> u8
-        ensures { result ≡ sign_byte self }
-    {
-        match self {
+// A byte that is no sign.
+#[derive(Clone, Copy, Debug, PartialEq, Eq)]
+pub struct UnknownSign(pub u8);
+
+// The byte that a sign is written as.
+impl From<Sign> for u8 {
+    ghost from_gives = { λ s b. b ≡ sign_byte s };
+
+    fn from(sign: Sign) -> u8 {
+        match sign {
             Sign::Plus => b'+',
             Sign::Minus => b'-',
         }
     }
+}
 
-    // The sign that a byte is read as.
-    pub fn of_byte(byte: u8) -> Option<Sign>
-        ensures { result ≡ sign_of byte }
-    {
+// The sign that a byte is read as.
+impl TryFrom<u8> for Sign {
+    type Error = UnknownSign;
+
+    ghost try_from_gives = { λ b r. Reads b r };
+
+    fn try_from(byte: u8) -> Result<Sign, UnknownSign> {
         match byte {
-            b'+' => Some(Sign::Plus),
-            b'-' => Some(Sign::Minus),
-            _ => None,
+            b'+' => Ok(Sign::Plus),
+            b'-' => Ok(Sign::Minus),
+            _ => Err(UnknownSign(byte)),
         }
     }
 }

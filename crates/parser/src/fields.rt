@@ -37,7 +37,7 @@ pub(crate) fn read_literal(field: &[u8]) -> Option<Literal>
     let [first, rest @ ..] = field else {
         return None;
     };
-    let sign = Sign::of_byte(*first)?;
+    let sign = Sign::try_from(*first).ok()?;
     let halves = cut_at(rest, b':');
     let variable = read_number(halves.front)?;
     let value = read_number(halves.rest?)?;

@@ -1,8 +1,8 @@
 -- Why a line is refused. Assumes nothing.
+use Rattle.formula.specs.Refusals.{no_detail}
 use Rattle.formula.specs.declared.refusals.Reason.TheVariants as reasons
 use Rattle.formula.specs.declared.refusals.Refusal.{Refusal}
 use Rattle.workbook.specs.Faults as workbook
-use Rattle.workbook.specs.Faults.{no_detail}
 use Rattle.reader.specs.declared.faults.LineFault.{LineFault}
 use Rattle.reader.specs.declared.faults.LineFault.TheVariants.{Line, Workbook}
 

@@ -2,8 +2,7 @@
 use Rattle.std.specs.Prelude.{ℕ, ◌+◌, cond, List, [], ◌∷◌, ◌++◌, map, length, drop, replicate, Ok, Err, codes, decimal, Result, nat_le}
 use Rattle.std.specs.List.{flat_map}
 use Rattle.encodings.specs.Names.{meaning_of}
-use Rattle.formula.specs.Refusals.{reason_number, reason_layer, layer_letter}
-use Rattle.formula.specs.declared.refusals.Details.{Details}
+use Rattle.formula.specs.Refusals.{refusal_text}
 use Rattle.formula.specs.declared.refusals.Refusal.{Refusal}
 use Rattle.mapping.specs.Meanings.{Meaning}
 use Rattle.text_store.specs.ByteStores.{byte_empty}
@@ -40,13 +39,9 @@ outcome (declares m) answers = first_answer answers
 outcome (states ls) answers = first_answer answers
 outcome unreadable answers = Err Line
 
--- a refusal as it is printed: line number, refusal number, layer and both details
-abbrev pub refused_text : ℕ → ℕ → List ℕ → Details → List ℕ
-refused_text line number letter d =
-    codes "c refused " ++ (decimal line ++ (32 ∷ (decimal number ++ (32 ∷ (letter ++ (32 ∷ (decimal d.first ++ (32 ∷ (decimal d.second ++ 10 ∷ [])))))))))
-
+-- a refused line as it is printed: its number and the refusal
 abbrev pub refused_line : ℕ → Refusal → List ℕ
-refused_line n r = refused_text n (reason_number r.reason) (layer_letter (reason_layer r.reason) ∷ []) r.details
+refused_line n r = codes "c refused " ++ (decimal n ++ (32 ∷ (refusal_text r ++ 10 ∷ [])))
 
 -- only a refused line is printed
 abbrev pub outcome_line : ℕ → Result ℕ LineFault → List ℕ

@@ -6,25 +6,22 @@ ghost use Rattle.reader.specs.Faults.{refusal_of};
 use formula::{Details, Reason, Refusal};
 use workbook::WorkbookFault;
 
-#[derive(Clone, Copy)]
+#[derive(Clone, Copy, Debug, PartialEq, Eq)]
 pub enum LineFault {
     Line,
     Workbook(WorkbookFault),
 }
 
-impl LineFault {
-    pub fn refusal(self) -> Refusal
-        ensures { result ≡ refusal_of self }
-    {
-        match self {
+impl From<LineFault> for Refusal {
+    ghost from_gives = { λ e r. r ≡ refusal_of e };
+
+    fn from(fault: LineFault) -> Refusal {
+        match fault {
             LineFault::Line => Refusal {
                 reason: Reason::Line,
-                details: Details {
-                    first: 0,
-                    second: 0,
-                },
+                details: Details::default(),
             },
-            LineFault::Workbook(fault) => fault.refusal(),
+            LineFault::Workbook(fault) => Refusal::from(fault),
         }
     }
 }

@@ -1,37 +1,19 @@
 // What the program prints.
 ghost use Rattle.std.specs.Prelude.{◌≡◌, ◌++◌, map, length, drop, IfOk, string_bytes, OnOk};
-ghost use Rattle.std.proofs.Math.Utf8.{encode};
-ghost use Rattle.reader.specs.Program.{refused_text, refused_line, header, first_answer, outcome, outcome_line, refused_lines, steps_in};
+ghost use Rattle.reader.specs.Program.{refused_line, header, first_answer, outcome, outcome_line, refused_lines, steps_in};
 ghost use Rattle.parser.specs.Said.{said_of};
 
 use crate::faults::LineFault;
-use formula::{Details, Refusal};
+use formula::Refusal;
 use parser::Line;
 use rows::Answer;
 use std::alloc::{AllocError, Global};
-
-// The numbers and the letter of a refusal.
-fn refused_text(
-    heap: Global,
-    line: u64,
-    number: u32,
-    letter: char,
-    details: Details,
-) -> Result<String, AllocError>
-    ensures { IfOk result (λ t. string_bytes t ≡ refused_text line number (encode letter) details) }
-{
-    let first = details.first;
-    let second = details.second;
-    format!(in heap; "c refused {line} {number} {letter} {first} {second}\n")
-}
 
 // A refusal of a line.
 fn refused_line(heap: Global, line: u64, refusal: Refusal) -> Result<String, AllocError>
     ensures { IfOk result (λ t. string_bytes t ≡ refused_line line refusal) }
 {
-    let number = refusal.reason.number();
-    let letter = refusal.reason.layer().letter() as char;
-    refused_text(heap, line, number, letter, refusal.details)
+    format!(in heap; "c refused {line} {refusal}\n")
 }
 
 // The line before the clauses.
@@ -91,7 +73,7 @@ pub(crate) fn print_outcome(
     ensures { OnOk result (out.new.items ≡ out.old.items ++ outcome_line line outcome) }
 {
     if let Err(fault) = outcome {
-        let text = refused_line(heap, line, fault.refusal())?;
+        let text = refused_line(heap, line, Refusal::from(fault))?;
         out.extend_from_slice(text.as_bytes())?;
     }
     Ok(())

@@ -9,17 +9,17 @@ ghost use Rattle.store.specs.Stores.{Terms, Bounded, Contents, put_answer, after
 use formula::{Details, Reason, Refusal};
 
 // Why a store refuses a clause.
-#[derive(Clone, Copy)]
+#[derive(Clone, Copy, Debug, PartialEq, Eq)]
 pub enum StoreFault {
     NumbersSpent(Details),
     WordsShort(Details),
 }
 
-impl StoreFault {
-    pub fn refusal(self) -> Refusal
-        ensures { result ≡ refusal_of self }
-    {
-        match self {
+impl From<StoreFault> for Refusal {
+    ghost from_gives = { λ e r. r ≡ refusal_of e };
+
+    fn from(fault: StoreFault) -> Refusal {
+        match fault {
             StoreFault::NumbersSpent(details) => Refusal {
                 reason: Reason::NumbersSpent,
                 details,

@@ -51,8 +51,8 @@ fn wanted(heap: Global, row: &[Call]) -> Vec<u8> {
 
 fn refused(refusal: Refusal) -> Refused {
     Refused {
-        number: refusal.reason.number() as i64,
-        layer: refusal.reason.layer().letter(),
+        number: u32::from(refusal.reason) as i64,
+        layer: u8::from(refusal.reason.layer()),
         first: i64::try_from(refusal.details.first).unwrap_or(0),
         second: i64::try_from(refusal.details.second).unwrap_or(0),
     }
@@ -63,7 +63,7 @@ fn put_refusals(all: &mut Vec<u8>, answers: &[Answer]) {
     for answer in answers {
         place = place.saturating_add(1);
         if let Answer::Refused(fault) = answer {
-            put_refusal(all, place, refused(fault.refusal()));
+            put_refusal(all, place, refused(Refusal::from(*fault)));
         }
     }
 }

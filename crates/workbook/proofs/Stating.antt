@@ -3,6 +3,7 @@ use Rattle.std.proofs.Common.{◌≡◌, ℕ, ◌+◌, ◌<◌, ◌≤◌, Bool,
 use Rattle.std.proofs.lemmas.List.{take_all}
 use Rattle.std.proofs.lemmas.Bool.{and_parts, leb-true, ltb-true}
 use Rattle.formula.specs.Sheets.{clauses}
+use Rattle.formula.specs.Refusals.{detail}
 use Rattle.formula.specs.declared.signed.Literal.{Literal}
 use Rattle.store.specs.Stores.{Contents}
 use Rattle.store.specs.declared.StoreFault.{StoreFault}
@@ -14,7 +15,7 @@ use Rattle.workbook.specs.declared.faults.WorkbookFault.{WorkbookFault}
 use Rattle.workbook.specs.declared.faults.WorkbookFault.TheVariants.{Store, Long}
 use Rattle.workbook.specs.Calls.{state_answer, stated}
 use Rattle.workbook.specs.Checks.{check, space_answer, literals_answer, clause_answer}
-use Rattle.workbook.specs.Faults.{from_store, and_then, numbered, on_ok, detail}
+use Rattle.workbook.specs.Faults.{from_store, and_then, numbered, on_ok}
 use Rattle.workbook.specs.Pages.{Page, literals_of}
 use Rattle.workbook.specs.States.{Made, State}
 

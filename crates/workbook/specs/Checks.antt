@@ -1,12 +1,13 @@
 -- What a workbook checks before it asks its store. Assumes nothing.
 use Rattle.std.specs.Prelude.{ℕ, ◌+◌, Bool, cond, ◌&&◌, List, [], ◌∷◌, length, Ok, Err, Result, nat_le, nat_lt}
+use Rattle.formula.specs.Refusals.{detail}
 use Rattle.formula.specs.declared.signed.Literal.{Literal}
 use Rattle.mapping.specs.Meanings.{is_size, is_value}
 use Rattle.translator.specs.declared.places.Place.{Place}
 use Rattle.translator.specs.Places.{place_at}
 use Rattle.workbook.specs.declared.faults.WorkbookFault.{WorkbookFault}
 use Rattle.workbook.specs.declared.faults.WorkbookFault.TheVariants.{Size, NamesSpent, Long, Stranger, Value, SheetFull}
-use Rattle.workbook.specs.Faults.{detail, and_then}
+use Rattle.workbook.specs.Faults.{and_then}
 use Rattle.workbook.specs.Pages.{Page, literals_of}
 
 abbrev pub check : Bool → WorkbookFault → Result (Unit {0}) WorkbookFault

@@ -1,19 +1,12 @@
 -- The refusals of a workbook, and how answers follow one another. Assumes nothing.
 use Rattle.std.specs.Prelude.{ℕ, Ok, Err, Result}
-use Rattle.formula.specs.declared.refusals.Details.{Details}
+use Rattle.formula.specs.Refusals.{no_detail}
 use Rattle.formula.specs.declared.refusals.Reason.TheVariants as reasons
 use Rattle.formula.specs.declared.refusals.Refusal.{Refusal}
 use Rattle.store.specs.Faults as store
 use Rattle.store.specs.declared.StoreFault.{StoreFault}
 use Rattle.workbook.specs.declared.faults.WorkbookFault.{WorkbookFault}
 use Rattle.workbook.specs.declared.faults.WorkbookFault.TheVariants.{Size, NamesSpent, Long, Stranger, Value, SheetFull, Store}
-
--- one detail, or none
-abbrev pub detail : ℕ → Details
-detail n = record { first = n; second = 0 }
-
-abbrev pub no_detail : Details
-no_detail = record { first = 0; second = 0 }
 
 abbrev pub refusal_of : WorkbookFault → Refusal
 refusal_of (Size d) = record { reason = reasons.Size; details = d }

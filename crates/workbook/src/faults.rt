@@ -6,7 +6,7 @@ ghost use Rattle.workbook.specs.Faults.{refusal_of};
 use formula::{Details, Reason, Refusal};
 use store::StoreFault;
 
-#[derive(Clone, Copy)]
+#[derive(Clone, Copy, Debug, PartialEq, Eq)]
 pub enum WorkbookFault {
     Size(Details),
     NamesSpent,
@@ -17,23 +17,18 @@ pub enum WorkbookFault {
     Store(StoreFault),
 }
 
-const NO_DETAILS: Details = Details {
-    first: 0,
-    second: 0,
-};
+impl From<WorkbookFault> for Refusal {
+    ghost from_gives = { λ e r. r ≡ refusal_of e };
 
-impl WorkbookFault {
-    pub fn refusal(self) -> Refusal
-        ensures { result ≡ refusal_of self }
-    {
-        let (reason, details) = match self {
+    fn from(fault: WorkbookFault) -> Refusal {
+        let (reason, details) = match fault {
             WorkbookFault::Size(details) => (Reason::Size, details),
-            WorkbookFault::NamesSpent => (Reason::NamesSpent, NO_DETAILS),
+            WorkbookFault::NamesSpent => (Reason::NamesSpent, Details::default()),
             WorkbookFault::Long(details) => (Reason::Long, details),
             WorkbookFault::Stranger(details) => (Reason::Stranger, details),
             WorkbookFault::Value(details) => (Reason::Value, details),
-            WorkbookFault::SheetFull => (Reason::SheetFull, NO_DETAILS),
-            WorkbookFault::Store(fault) => return fault.refusal(),
+            WorkbookFault::SheetFull => (Reason::SheetFull, Details::default()),
+            WorkbookFault::Store(fault) => return Refusal::from(fault),
         };
         Refusal { reason, details }
     }

@@ -20,12 +20,6 @@ const MOST_LITERALS: usize = 4096;
 
 const CLAUSE_LITERALS: usize = 16;
 
-fn detail(first: u64) -> Details
-    ensures { result ≡ record { first = first; second = 0 } }
-{
-    Details { first, second: 0 }
-}
-
 impl Sheet {
     // Takes all the memory that a sheet needs.
     pub fn new(heap: Global) -> Result<Sheet, AllocError>
@@ -75,7 +69,7 @@ impl Sheet {
         ensures { result ≡ size_answer (page_in self.now) size }
     {
         if size < 2 || size > 64 {
-            return Err(WorkbookFault::Size(detail(size as u64)));
+            return Err(WorkbookFault::Size(Details::from(u64::from(size))));
         }
         if self.places.len() >= MOST_VARIABLES {
             return Err(WorkbookFault::NamesSpent);
@@ -98,7 +92,7 @@ impl Sheet {
         ensures { result ≡ clause_answer (page_in self.now) literals.now }
     {
         if literals.len() > CLAUSE_LITERALS {
-            return Err(WorkbookFault::Long(detail(literals.len() as u64)));
+            return Err(WorkbookFault::Long(Details::from(literals.len() as u64)));
         }
         self.check_literals(literals)?;
         self.check_space(literals.len())
@@ -141,10 +135,10 @@ fn check_literal(places: &[Place], place: u64, literal: &Literal) -> Result<(), 
 {
     let variable = literal.variable as usize;
     if variable < 1 || variable > places.len() {
-        return Err(WorkbookFault::Stranger(detail(place)));
+        return Err(WorkbookFault::Stranger(Details::from(place)));
     }
     if literal.value < 1 || literal.value > places[variable - 1].size {
-        return Err(WorkbookFault::Value(detail(place)));
+        return Err(WorkbookFault::Value(Details::from(place)));
     }
     Ok(())
 }
