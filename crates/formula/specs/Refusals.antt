@@ -1,5 +1,5 @@
 -- The table of refusals: number, word and layer of each reason. Assumes nothing.
-use Rattle.std.specs.Prelude.{ℕ, List, ◌∷◌, [], ◌++◌, codes, decimal}
+use Rattle.std.specs.Prelude.{ℕ, List, ◌∷◌, ◌++◌, codes, decimal}
 use Rattle.formula.specs.declared.refusals.Details.{Details}
 use Rattle.formula.specs.declared.refusals.Layer.{Layer}
 use Rattle.formula.specs.declared.refusals.Layer.TheVariants as layers
