@@ -156,19 +156,19 @@ def point5():
             facts[(crate_of(path), kind, part)].append((path, n))
     for (crate, kind, part), where in sorted(facts.items(), key=str):
         if len(where) >= 3:
-            for path, n in where:
-                yield path, n, f"{kind} {part[:90]} ({len(where)} contracts)"
-    groups = defaultdict(list)
+            path, n = where[0]
+            yield path, n, f"{kind} {part[:90]} ({len(where)} contracts)"
+    users = defaultdict(set)
     for path, n, name, head, body in functions():
         text = re.sub(r"\s+", " ", " ".join(head))
-        parameters = tuple(sorted(re.findall(r"(\w+): (?!\{)", re.sub(r"ensures.*", "", text.split(") ->")[0]))))
-        for a in range(len(parameters)):
-            for b in range(a + 1, len(parameters)):
-                groups[(crate_of(path), parameters[a], parameters[b])].append((path, n, name))
-    for (crate, a, b), where in sorted(groups.items()):
-        if len(where) >= 3:
-            for path, n, name in where:
-                yield path, n, f"{name}: {a}, {b} ({len(where)} functions)"
+        text = re.split(r"\) (->|requires|ensures)", re.sub(r"fn \w+(<[^(]*>)?\(", "", text))[0]
+        for parameter in re.findall(r"(\w+): ", text):
+            users[(crate_of(path), parameter)].add((str(path), n))
+    for (crate, a), wa in users.items():
+        for (other, b), wb in users.items():
+            if crate == other and a < b and len(wa & wb) >= 3 and len(wa & wb) * 4 >= 3 * max(len(wa), len(wb)):
+                path, n = sorted(wa & wb)[0]
+                yield Path(path), n, f"parameters {a}, {b} (together in {len(wa & wb)} functions)"
 
 
 def point6():
