@@ -7,7 +7,7 @@ use Rattle.workbook.proofs.book.Workbook.state.Goals as goal
 
 pub add_clause-requires : goal.add_clause-requires
 add_clause-requires g c =
-    let told = clause_passed (page_in c.args.self.now.sheet) c.args.literals.now _ (sym c.check_clause.ensures ∙ c.in_ok-check_clause.was) in
+    let told = clause_passed (page_in c.args.self.now.parts.sheet) c.args.literals.now _ (sym c.check_clause.ensures ∙ c.in_ok-check_clause.was) in
     record { few = told.0; space = told.1; room = told.2 }
 
 pub returns-in_err-file_clause : goal.returns-in_err-file_clause
