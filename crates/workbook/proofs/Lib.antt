@@ -1,4 +1,3 @@
-pub mod Checked
 pub mod Slots
 pub mod Spaces
 pub mod Stating

@@ -16,8 +16,8 @@ pub literals_held : (s : Sheet) → literals_of (page_in s).entries ≡ vec_len 
 literals_held s =
     literals_entries (vec_items s.slots) (vec_items s.literals) (omega (arith, s.literals_counted, s.literals.ok.0)) ∙ s.literals_counted
 
-pub clauses_held : (s : Sheet) → length (clauses (page_in s).entries) ≡ s.clauses
-clauses_held s = clauses_entries (vec_items s.slots) (vec_items s.literals) ∙ s.clauses_counted
+pub clauses_held : (s : Sheet) → length (clauses (page_in s).entries) + vec_len s.places ≡ vec_len s.slots
+clauses_held s = omega (arith, clauses_entries (vec_items s.slots) (vec_items s.literals), s.clauses_counted)
 
 module _ (p : Page) (n : ℕ) where
   pub space_left : length p.entries < 1024 → literals_of p.entries + n ≤ 4096 → space_answer p n ≡ Ok tt
