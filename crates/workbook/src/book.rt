@@ -20,6 +20,7 @@ pub struct Parts<M, S> {
 }
 
 // A sheet, and the store that holds its translation under a mapping.
+// kept: made_of and state_of in each contract: a Model's Value would name S.Cell, and to the check that member "is not at hand here".
 pub struct Workbook<M, S> {
     book: u32,
     parts: Parts<M, S>,

@@ -1,5 +1,5 @@
 // A sheet in memory that is taken once.
-ghost use Rattle.std.specs.Prelude.{◌≡◌, ◌+◌, ◌*◌, ◌<◌, ◌≤◌, length, IfOk, vec_len, vec_capacity};
+ghost use Rattle.std.specs.Prelude.{◌≡◌, ◌+◌, ◌*◌, ◌<◌, ◌≤◌, length, IfOk, IsOk, vec_len, vec_capacity};
 ghost use Rattle.formula.specs.Sheets.{clauses};
 ghost use Rattle.workbook.specs.Checks.{space_answer, size_answer, literal_answer, literals_answer, clause_answer};
 ghost use Rattle.workbook.specs.Pages.{empty_page, with_variable, with_clause, literals_of, slot_literals, slot_clauses};
@@ -26,6 +26,9 @@ pub enum Slot {
 }
 
 // At most 255 variables, 1,024 entries and 4,096 literals, for which there is memory, and the words in which a mapping hands out axioms.
+// The literals of all clauses lie one behind the other, and each slot says how many are its own.
+// kept: literals in one list, cut by counts: the memory is taken once, and a Vec in each clause would allocate in a call that must not.
+// kept: ghost fields and no Model: what ends a workbook promises the whole sheet back, addresses too, and a Value of all that is no plainer.
 #[derive(Drop)]
 pub struct Sheet {
     pub(crate) places: Vec<Place>,
@@ -117,9 +120,12 @@ impl Sheet {
         Ok(())
     }
 
-    // Whether a clause may be stated.
+    // Whether a clause may be stated: then it is short, and there is room for it.
     pub(crate) fn check_clause(&self, literals: &[Literal]) -> Result<(), WorkbookFault>
-        ensures { result ≡ clause_answer (page_in self.now) literals.now }
+        ensures answer { result ≡ clause_answer (page_in self.now) literals.now }
+        ensures few { IsOk result → length literals.now ≤ 16 }
+        ensures space { IsOk result → length (page_in self.now).entries < 1024 }
+        ensures room { IsOk result → literals_of (page_in self.now).entries + length literals.now ≤ 4096 }
     {
         if literals.len() > CLAUSE_LITERALS {
             return Err(WorkbookFault::Long(Details::from(literals.len() as u64)));
