@@ -20,7 +20,7 @@ const CLAUSE_LITERALS: usize = 16;
 
 // An entry: a variable of a size, or a clause of so many literals.
 #[derive(Clone, Copy)]
-pub enum Slot {
+enum Slot {
     Variable(u32),
     Clause(u32),
 }
@@ -28,7 +28,7 @@ pub enum Slot {
 // At most 255 variables, 1,024 entries and 4,096 literals, for which there is memory, and the words in which a mapping hands out axioms.
 // The literals of all clauses lie one behind the other, and each slot says how many are its own.
 // kept: literals in one list, cut by counts: the memory is taken once, and a Vec in each clause would allocate in a call that must not.
-// kept: ghost fields and no Model: what ends a workbook promises the whole sheet back, addresses too, and a Value of all that is no plainer.
+// kept: ghost fields and no Model: finish promises the whole sheet back, its addresses too, and a Value that has them is no plainer.
 #[derive(Drop)]
 pub struct Sheet {
     pub(crate) places: Vec<Place>,
