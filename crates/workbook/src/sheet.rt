@@ -1,8 +1,9 @@
 // A sheet in memory that is taken once.
 ghost use Rattle.std.specs.Prelude.{◌≡◌, ◌+◌, ◌*◌, ◌<◌, ◌≤◌, length, IfOk, IsOk, vec_len, vec_capacity};
 ghost use Rattle.formula.specs.Sheets.{clauses};
+ghost use Rattle.formula.specs.Tests.{sum_of, count};
 ghost use Rattle.workbook.specs.Checks.{space_answer, size_answer, literal_answer, literals_answer, clause_answer};
-ghost use Rattle.workbook.specs.Pages.{empty_page, with_variable, with_clause, literals_of, slot_literals, slot_clauses};
+ghost use Rattle.workbook.specs.Pages.{empty_page, with_variable, with_clause, literals_of, literals_in, is_clause};
 
 use crate::faults::WorkbookFault;
 use formula::{Details, Literal};
@@ -43,8 +44,8 @@ pub struct Sheet {
     ghost slots_few: { vec_len slots ≤ 1024 },
     ghost literals_few: { vec_len literals ≤ 4096 },
     ghost total_few: { total ≤ 127 * vec_len places },
-    ghost literals_counted: { slot_literals slots.items ≡ vec_len literals },
-    ghost clauses_counted: { slot_clauses slots.items + vec_len places ≡ vec_len slots },
+    ghost literals_counted: { sum_of literals_in slots.items ≡ vec_len literals },
+    ghost clauses_counted: { count is_clause slots.items + vec_len places ≡ vec_len slots },
 }
 
 impl Sheet {
