@@ -16,6 +16,9 @@ push_reserved-requires c = omega (arith, entries_held c.args.self.now, c.args.se
 pub invariant_of-self-clause-slots_few : goal.invariant_of-self-clause-slots_few
 invariant_of-self-clause-slots_few c = omega (arith, entries_held c.args.self.now)
 
+pub invariant_of-self-clause-literals_few : goal.invariant_of-self-clause-literals_few
+invariant_of-self-clause-literals_few c = grind (arith, common_steps, literals_held c.args.self.now)
+
 pub invariant_of-self-clause-literals_counted : goal.invariant_of-self-clause-literals_counted
 invariant_of-self-clause-literals_counted c =
     grind (arith, common_steps, ap (sum_of literals_in) c.push_reserved.ensures.items, sum_push literals_in (vec_items c.args.self.now.slots))
@@ -29,6 +32,3 @@ returns-clause-number c = omega (arith, clauses_held c.args.self.now)
 
 pub returns-clause-page : goal.returns-clause-page
 returns-clause-page c = grind (arith, common_steps, entries_clause)
-
-pub invariant_of-self-clause-literals_few : goal.invariant_of-self-clause-literals_few
-invariant_of-self-clause-literals_few c = grind (arith, common_steps, literals_held c.args.self.now)
