@@ -1,4 +1,2 @@
-pub mod Checked
 pub mod Slots
 pub mod Spaces
-pub mod Stating

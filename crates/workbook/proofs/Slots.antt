@@ -1,55 +1,35 @@
 -- Entries as code keeps them. Assumes nothing.
-use Rattle.std.proofs.Common.{◌≡◌, ℕ, ◌+◌, ◌≤◌, List, [], ◌∷◌, ◌++◌, length, take, drop, sym, refl, ap, ◌∙◌, arith}
-use Rattle.std.proofs.lemmas.List.{length-take-le, length-drop, take-append-le, drop-append-le, take_all, nil_from_length}
-use Rattle.formula.specs.Sheets.{Entry, variable, clause, clauses}
+use Rattle.std.proofs.Common.{◌≡◌, ℕ, ◌≤◌, List, [], ◌∷◌, ◌++◌, length, drop, refl, arith}
+use Rattle.std.proofs.lemmas.Grind.{common_steps}
+use Rattle.formula.specs.Sheets.{variable, clause, clauses}
+use Rattle.formula.specs.Tests.{sum_of, count}
 use Rattle.formula.specs.declared.signed.Literal.{Literal}
 use Rattle.workbook.specs.declared.sheet.Slot.{Slot}
 use Rattle.workbook.specs.declared.sheet.Slot.TheVariants.{Variable, Clause}
-use Rattle.workbook.specs.Pages.{entries_in, literals_of, slot_literals, slot_clauses}
+use Rattle.workbook.specs.Pages.{entries_in, literals_of, literals_in, is_clause}
 
 pub length_entries : (ss : List Slot) (ls : List Literal) → length (entries_in ss ls) ≡ length ss
 length_entries [] ls = refl
 length_entries (Variable m ∷ ss) ls = omega (arith, length_entries ss ls)
 length_entries (Clause n ∷ ss) ls = omega (arith, length_entries ss (drop n ls))
 
-pub clauses_entries : (ss : List Slot) (ls : List Literal) → length (clauses (entries_in ss ls)) ≡ slot_clauses ss
+pub clauses_entries : (ss : List Slot) (ls : List Literal) → length (clauses (entries_in ss ls)) ≡ count is_clause ss
 clauses_entries [] ls = refl
-clauses_entries (Variable m ∷ ss) ls = clauses_entries ss ls
+clauses_entries (Variable m ∷ ss) ls = omega (arith, clauses_entries ss ls)
 clauses_entries (Clause n ∷ ss) ls = omega (arith, clauses_entries ss (drop n ls))
 
-pub literals_entries : (ss : List Slot) (ls : List Literal) → slot_literals ss ≤ length ls → literals_of (entries_in ss ls) ≡ slot_literals ss
+pub literals_entries : (ss : List Slot) (ls : List Literal) → sum_of literals_in ss ≤ length ls → literals_of (entries_in ss ls) ≡ sum_of literals_in ss
 literals_entries [] ls h = refl
-literals_entries (Variable m ∷ ss) ls h = literals_entries ss ls h
-literals_entries (Clause n ∷ ss) ls h =
-    omega (arith, length-take-le n ls (omega arith), literals_entries ss (drop n ls) (omega (arith, length-drop n ls)))
+literals_entries (Variable m ∷ ss) ls h = omega (arith, literals_entries ss ls (omega arith))
+literals_entries (Clause n ∷ ss) ls h = grind (arith, common_steps, literals_entries ss (drop n ls))
 
 pub entries_variable : (ss : List Slot) (ls : List Literal) (m : ℕ) → entries_in (ss ++ Variable m ∷ []) ls ≡ entries_in ss ls ++ variable m ∷ []
 entries_variable [] ls m = refl
-entries_variable (Variable k ∷ ss) ls m = ap (λ (es : List Entry). variable k ∷ es) (entries_variable ss ls m)
-entries_variable (Clause n ∷ ss) ls m = ap (λ (es : List Entry). clause (take n ls) ∷ es) (entries_variable ss (drop n ls) m)
+entries_variable (Variable k ∷ ss) ls m = cc (entries_variable ss ls m)
+entries_variable (Clause n ∷ ss) ls m = cc (entries_variable ss (drop n ls) m)
 
-pub entries_clause : (ss : List Slot) (ls more : List Literal) → slot_literals ss ≡ length ls →
+pub entries_clause : (ss : List Slot) (ls more : List Literal) → sum_of literals_in ss ≡ length ls →
     entries_in (ss ++ Clause (length more) ∷ []) (ls ++ more) ≡ entries_in ss ls ++ clause more ∷ []
-entries_clause [] ls more h =
-    ap (λ (xs : List Literal). clause (take (length more) (xs ++ more)) ∷ []) (nil_from_length ls (sym h))
-    ∙ ap (λ (xs : List Literal). clause xs ∷ []) (take_all (length more) more (omega arith))
-entries_clause (Variable k ∷ ss) ls more h = ap (λ (es : List Entry). variable k ∷ es) (entries_clause ss ls more h)
-entries_clause (Clause n ∷ ss) ls more h =
-    let within : n ≤ length ls = omega arith in
-    (λ i. clause (take-append-le n ls more within i) ∷ entries_in (ss ++ Clause (length more) ∷ []) (drop-append-le n ls more within i))
-    ∙ ap (λ (es : List Entry). clause (take n ls) ∷ es) (entries_clause ss (drop n ls) more (omega (arith, length-drop n ls)))
-
-pub more_literals : (ss : List Slot) (s : Slot) → slot_literals (ss ++ s ∷ []) ≡ slot_literals ss + slot_literals (s ∷ [])
-more_literals [] s = omega arith
-more_literals (Variable m ∷ ss) s = more_literals ss s
-more_literals (Clause n ∷ ss) s = omega (arith, more_literals ss s)
-
-pub more_clauses : (ss : List Slot) (s : Slot) → slot_clauses (ss ++ s ∷ []) ≡ slot_clauses ss + slot_clauses (s ∷ [])
-more_clauses [] s = omega arith
-more_clauses (Variable m ∷ ss) s = more_clauses ss s
-more_clauses (Clause n ∷ ss) s = omega (arith, more_clauses ss s)
-
-pub clauses_few : (ss : List Slot) → slot_clauses ss ≤ length ss
-clauses_few [] = omega arith
-clauses_few (Variable m ∷ ss) = omega (arith, clauses_few ss)
-clauses_few (Clause n ∷ ss) = omega (arith, clauses_few ss)
+entries_clause [] ls more h = grind (arith, common_steps)
+entries_clause (Variable k ∷ ss) ls more h = cc (entries_clause ss ls more (omega arith))
+entries_clause (Clause n ∷ ss) ls more h = grind (arith, common_steps, entries_clause ss (drop n ls) more)

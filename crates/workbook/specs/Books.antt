@@ -7,7 +7,7 @@ use Rattle.workbook.specs.States.{Made, State}
 
 module _ {M S Cell : Type 0} where
   abbrev pub made_of : Meaning → (S → Terms Cell) → Workbook M S → Made Cell
-  made_of meaning terms w = record { book = w.book; meaning = meaning; terms = terms w.store }
+  made_of meaning terms w = record { book = w.book; meaning = meaning; terms = terms w.parts.store }
 
   abbrev pub state_of : (S → Contents Cell) → Workbook M S → State Cell
-  state_of contents w = record { page = page_in w.sheet; contents = contents w.store }
+  state_of contents w = record { page = page_in w.parts.sheet; contents = contents w.parts.store }

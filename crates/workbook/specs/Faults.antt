@@ -1,4 +1,4 @@
--- The refusals of a workbook, and how answers follow one another. Assumes nothing.
+-- The refusals of a workbook, and what an answer leaves. Assumes nothing.
 use Rattle.std.specs.Prelude.{ℕ, Ok, Err, Result}
 use Rattle.formula.specs.Refusals.{no_detail}
 use Rattle.formula.specs.declared.refusals.Reason.TheVariants as reasons
@@ -21,16 +21,6 @@ refusal_of (Store e) = store.refusal_of e
 abbrev pub from_store : Result (Unit {0}) StoreFault → Result (Unit {0}) WorkbookFault
 from_store (Ok u) = Ok u
 from_store (Err e) = Err (Store e)
-
--- one check, and where it passes the next
-abbrev pub and_then : Result (Unit {0}) WorkbookFault → Result (Unit {0}) WorkbookFault → Result (Unit {0}) WorkbookFault
-and_then (Ok u) next = next
-and_then (Err e) next = Err e
-
--- the number that is answered where the checks pass
-abbrev pub numbered : Result (Unit {0}) WorkbookFault → ℕ → Result ℕ WorkbookFault
-numbered (Ok u) n = Ok n
-numbered (Err e) n = Err e
 
 -- what is there afterwards: a refusal changes nothing
 abbrev pub on_ok : {X : Type 0} → Result ℕ WorkbookFault → X → X → X

@@ -1,5 +1,5 @@
 -- What a workbook remembers of a sheet. Assumes nothing.
-use Rattle.std.specs.Prelude.{ℕ, ◌+◌, List, [], ◌∷◌, ◌++◌, length, take, drop}
+use Rattle.std.specs.Prelude.{ℕ, ◌+◌, Bool, true, false, List, [], ◌∷◌, ◌++◌, length, take, drop}
 use Rattle.formula.specs.Sheets.{Entry, variable, clause, clauses}
 use Rattle.formula.specs.Tests.{sum_of}
 use Rattle.formula.specs.declared.signed.Literal.{Literal}
@@ -38,13 +38,11 @@ entries_in [] ls = []
 entries_in (Variable m ∷ ss) ls = variable m ∷ entries_in ss ls
 entries_in (Clause n ∷ ss) ls = clause (take n ls) ∷ entries_in ss (drop n ls)
 
--- the literals that the slots count, and the clauses among them
-abbrev pub slot_literals : List Slot → ℕ
-slot_literals [] = 0
-slot_literals (Variable m ∷ ss) = slot_literals ss
-slot_literals (Clause n ∷ ss) = n + slot_literals ss
+-- the literals that a slot counts: none for a variable
+abbrev pub literals_in : Slot → ℕ
+literals_in (Variable m) = 0
+literals_in (Clause n) = n
 
-abbrev pub slot_clauses : List Slot → ℕ
-slot_clauses [] = 0
-slot_clauses (Variable m ∷ ss) = slot_clauses ss
-slot_clauses (Clause n ∷ ss) = 1 + slot_clauses ss
+abbrev pub is_clause : Slot → Bool
+is_clause (Variable m) = false
+is_clause (Clause n) = true

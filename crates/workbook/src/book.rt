@@ -12,14 +12,6 @@ use mapping::Mapping;
 use store::Store;
 use translator::{file_axioms, file_clause};
 
-// A sheet, and the store that holds its translation under a mapping.
-pub struct Workbook<M, S> {
-    book: u32,
-    mapping: M,
-    store: S,
-    sheet: Sheet,
-}
-
 // What a workbook is made of, beside its number.
 pub struct Parts<M, S> {
     pub mapping: M,
@@ -27,22 +19,27 @@ pub struct Parts<M, S> {
     pub sheet: Sheet,
 }
 
+// A sheet, and the store that holds its translation under a mapping.
+// kept: made_of and state_of in each contract: a Model's Value would name S.Cell, and to the check that member "is not at hand here".
+pub struct Workbook<M, S> {
+    book: u32,
+    parts: Parts<M, S>,
+}
+
 impl<M: Mapping, S: Store> Workbook<M, S> {
     // A workbook of this number over a mapping and a store, which it clears, in the memory of a sheet, which it clears too.
-    pub fn new(book: u32, mapping: M, store: S, sheet: Sheet) -> Workbook<M, S>
+    pub fn new(book: u32, mapping: M, mut store: S, mut sheet: Sheet) -> Workbook<M, S>
         ensures made { made_of M.Mapping.meaning S.Store.terms result ≡ record { book = book; meaning = M.Mapping.meaning; terms = S.Store.terms store } }
         ensures state { state_of S.Store.contents result ≡ new_state (S.Store.contents store) }
     {
-        let mut store = store;
-        let mut sheet = sheet;
         store.clear();
         sheet.clear();
-        Workbook {
-            book,
+        let parts = Parts {
             mapping,
             store,
             sheet,
-        }
+        };
+        Workbook { book, parts }
     }
 
     // Declares a variable of this size, and answers its number.
@@ -51,17 +48,14 @@ impl<M: Mapping, S: Store> Workbook<M, S> {
         ensures after { state_of S.Store.contents self.new ≡ on_ok result (state_of S.Store.contents self.old) (declared (made_of M.Mapping.meaning S.Store.terms self.old) (state_of S.Store.contents self.old) size) }
         ensures same { made_of M.Mapping.meaning S.Store.terms self.new ≡ made_of M.Mapping.meaning S.Store.terms self.old }
     {
-        self.sheet.check_size(size)?;
-        let start = self.sheet.total;
-        file_axioms(
-            &self.mapping,
-            &mut self.store,
-            &mut self.sheet.memory,
-            start,
-            size,
-        )?;
-        let width = self.mapping.width(size);
-        Ok(self.sheet.add_variable(size, width))
+        let Parts {
+            mapping,
+            store,
+            sheet,
+        } = &mut self.parts;
+        sheet.check_size(size)?;
+        file_axioms(mapping, store, &mut sheet.memory, sheet.total, size)?;
+        Ok(sheet.add_variable(size, mapping.width(size)))
     }
 
     // States a clause of these literals, and answers its number.
@@ -70,46 +64,35 @@ impl<M: Mapping, S: Store> Workbook<M, S> {
         ensures after { state_of S.Store.contents self.new ≡ on_ok result (state_of S.Store.contents self.old) (stated (made_of M.Mapping.meaning S.Store.terms self.old) (state_of S.Store.contents self.old) literals.now) }
         ensures same { made_of M.Mapping.meaning S.Store.terms self.new ≡ made_of M.Mapping.meaning S.Store.terms self.old }
     {
-        self.sheet.check_clause(literals)?;
-        file_clause(
-            &self.mapping,
-            &mut self.store,
-            self.sheet.places.as_slice(),
-            literals,
-        )?;
-        Ok(self.sheet.add_clause(literals))
+        let Parts {
+            mapping,
+            store,
+            sheet,
+        } = &mut self.parts;
+        sheet.check_clause(literals)?;
+        file_clause(mapping, store, sheet.places.as_slice(), literals)?;
+        Ok(sheet.add_clause(literals))
     }
 
     // The number of Booleans of all declared variables.
     pub fn booleans(&self) -> u32
         ensures { result ≡ (state_of S.Store.contents self.now).page.total }
     {
-        self.sheet.total
+        self.parts.sheet.total
     }
 
     // The number of clauses that the store holds.
     pub fn stored_clauses(&self) -> u64
         ensures { result ≡ length (state_of S.Store.contents self.now).contents.list }
     {
-        self.store.count()
+        self.parts.store.count()
     }
 
     // The workbook's end: what it was made of comes back.
     pub fn finish(self) -> Parts<M, S>
-        ensures mapping { result.mapping ≡ self.mapping }
-        ensures store { result.store ≡ self.store }
-        ensures sheet { result.sheet ≡ self.sheet }
+        ensures { result ≡ self.parts }
     {
-        let Workbook {
-            book: _,
-            mapping,
-            store,
-            sheet,
-        } = self;
-        Parts {
-            mapping,
-            store,
-            sheet,
-        }
+        let Workbook { book: _, parts } = self;
+        parts
     }
 }

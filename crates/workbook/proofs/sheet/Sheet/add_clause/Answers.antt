@@ -1,51 +1,34 @@
-use Rattle.std.proofs.Common.{◌≡◌, ◌+◌, ◌≤◌, true, ◌++◌, length, is_ok, vec_items, vec_len, ap, ◌∙◌, arith}
-use Rattle.std.proofs.lemmas.Bool.{cond-true}
-use Rattle.workbook.specs.Pages.{entries_in, slot_literals, slot_clauses}
-use Rattle.workbook.specs.Sheets.{page_in}
-use Rattle.workbook.proofs.Slots.{entries_clause, more_literals, more_clauses, clauses_few}
+use Rattle.std.proofs.Common.{cond, vec_items, ap, arith}
+use Rattle.std.proofs.lemmas.Grind.{common_steps}
+use Rattle.formula.proofs.Tests.{sum_push}
+use Rattle.formula.specs.Tests.{sum_of, count}
+use Rattle.workbook.specs.Pages.{literals_in, is_clause}
+use Rattle.workbook.proofs.Slots.{entries_clause}
 use Rattle.workbook.proofs.Spaces.{entries_held, literals_held, clauses_held}
 use Rattle.workbook.proofs.sheet.Sheet.add_clause.Goals as goal
 
+pub unwrap-requires : goal.unwrap-requires
+unwrap-requires c = c.extend_from_slice.ensures.succeeds (omega (arith, literals_held c.args.self.now, c.args.self.now.literals_kept))
+
 pub push_reserved-requires : goal.push_reserved-requires
-push_reserved-requires c = omega (arith, entries_held c.args.self.now, c.requires.space, c.args.self.now.slots_kept)
+push_reserved-requires c = omega (arith, entries_held c.args.self.now, c.args.self.now.slots_kept)
 
-pub overflow_add-self : goal.overflow_add-self
-overflow_add-self c =
-    let s = c.args.self.now in
-    omega (arith, s.clauses_counted, clauses_few (vec_items s.slots), s.slots.ok.0, s.slots_few)
+pub invariant_of-self-clause-slots_few : goal.invariant_of-self-clause-slots_few
+invariant_of-self-clause-slots_few c = omega (arith, entries_held c.args.self.now)
 
-pub invariant_of-self : goal.invariant_of-self
-invariant_of-self c =
-    let s = c.args.self.now in
-    let more = c.extend_from_slice.ensures in
-    let slotted = c.push_reserved.ensures in
-    let room : vec_len s.literals + length c.args.literals.now ≤ 4096 = omega (arith, literals_held s, c.requires.room) in
-    let ok : is_ok c.extend_from_slice.result ≡ true = more.succeeds (omega (arith, s.literals_kept)) in
-    let long : vec_len c.extend_from_slice.new.self ≡ vec_len s.literals + length c.args.literals.now = more.len ∙ cond-true _ _ _ ok in
-    record {
-      places_kept = s.places_kept;
-      slots_kept = omega (arith, slotted.capacity, s.slots_kept);
-      literals_kept = omega (arith, more.capacity, s.literals_kept);
-      places_few = s.places_few;
-      slots_few = omega (arith, slotted.len, entries_held s, c.requires.space);
-      literals_few = omega (arith, long, room);
-      total_few = s.total_few;
-      literals_counted = ap slot_literals slotted.items ∙ more_literals (vec_items s.slots) _ ∙ omega (arith, s.literals_counted, long);
-      clauses_counted = ap slot_clauses slotted.items ∙ more_clauses (vec_items s.slots) _ ∙ omega (arith, s.clauses_counted);
-    }
+pub invariant_of-self-clause-literals_few : goal.invariant_of-self-clause-literals_few
+invariant_of-self-clause-literals_few c = grind (arith, common_steps, literals_held c.args.self.now)
 
-pub returns : goal.returns
-returns c =
-    let s = c.args.self.now in
-    let more = c.extend_from_slice.ensures in
-    let room : vec_len s.literals + length c.args.literals.now ≤ 4096 = omega (arith, literals_held s, c.requires.room) in
-    let ok : is_ok c.extend_from_slice.result ≡ true = more.succeeds (omega (arith, s.literals_kept)) in
-    let items : vec_items c.extend_from_slice.new.self ≡ vec_items s.literals ++ c.args.literals.now = more.items ∙ cond-true _ _ _ ok in
-    record {
-      number = omega (arith, clauses_held s);
-      page = λ i. record {
-        entries = ((λ j. entries_in (c.push_reserved.ensures.items j) (items j)) ∙ entries_clause (vec_items s.slots) (vec_items s.literals) c.args.literals.now (s.literals_counted ∙ s.literals.ok.0)) i;
-        places = (page_in s).places;
-        total = (page_in s).total;
-      };
-    }
+pub invariant_of-self-clause-literals_counted : goal.invariant_of-self-clause-literals_counted
+invariant_of-self-clause-literals_counted c =
+    grind (arith, common_steps, ap (sum_of literals_in) c.push_reserved.ensures.items, sum_push literals_in (vec_items c.args.self.now.slots))
+
+pub invariant_of-self-clause-clauses_counted : goal.invariant_of-self-clause-clauses_counted
+invariant_of-self-clause-clauses_counted c =
+    grind (arith, common_steps, ap (count is_clause) c.push_reserved.ensures.items, sum_push (λ s. cond (is_clause s) 1 0) (vec_items c.args.self.now.slots))
+
+pub returns-clause-number : goal.returns-clause-number
+returns-clause-number c = omega (arith, clauses_held c.args.self.now)
+
+pub returns-clause-page : goal.returns-clause-page
+returns-clause-page c = grind (arith, common_steps, entries_clause)
