@@ -10,17 +10,32 @@ ghost use Rattle.formula.specs.Boolean.{words_of};
 pub mod limits;
 
 use formula::Sign;
-pub use limits::{in_sizes, in_values};
+pub use limits::{Choice, Size, in_sizes, in_values};
 
 // Whether a form asks for all of its literals or for one of them.
-#[derive(Clone, Copy)]
+#[derive(Clone, Copy, Debug, PartialEq, Eq)]
 pub enum Kind {
     AllOf,
     AnyOf,
 }
 
+// A plus asks for all of a value's literals, a minus for one of their opposites.
+impl From<Sign> for Kind {
+    ghost use Rattle.std.specs.Prelude.{◌≡◌};
+    ghost use Rattle.mapping.specs.Forms.{kind_by};
+
+    ghost from_gives = { λ s k. k ≡ kind_by s };
+
+    fn from(sign: Sign) -> Kind {
+        match sign {
+            Sign::Plus => Kind::AllOf,
+            Sign::Minus => Kind::AnyOf,
+        }
+    }
+}
+
 // The kind of a form and the number of its literals.
-#[derive(Clone, Copy)]
+#[derive(Clone, Copy, Debug, PartialEq, Eq)]
 pub struct Shape {
     pub kind: Kind,
     pub count: usize,
