@@ -5,7 +5,9 @@ pub mod Exclusions
 pub mod Hot
 pub mod HotScans
 pub mod Known
+pub mod LinkWriting
 pub mod LogarithmicLaws
+pub mod Mapped
 pub mod Members
 pub mod Outside
 pub mod PatternCounts

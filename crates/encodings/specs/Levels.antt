@@ -10,7 +10,7 @@ use Rattle.encodings.specs.FullRegular.{at_least, less_than, link, links, bounds
 use Rattle.encodings.specs.Descents.{ones, falls, ones_most, on_below, stair, stair_row, stair_ones, stair_falls}
 use Rattle.encodings.specs.Guard.{reading_within, reading_no_row}
 use Rattle.encodings.specs.Limits.{size_low, size_high, value_low, value_high, value_from}
-use Rattle.encodings.specs.Readers.{LawfulLists, lists_keep, read_shown, read_unsatisfied}
+use Rattle.encodings.specs.Readers.{LawfulLists, lists_keep, lists_narrow, read_shown, read_unsatisfied}
 use Rattle.encodings.specs.Runs.{every_numbers, words_numbers}
 use Rattle.encodings.specs.Rows.{row_length}
 use Rattle.encodings.specs.Links.{at_least_is, less_than_is, at_least_local, less_than_local, link_local, satisfies_links}
@@ -77,7 +77,7 @@ module _ (m : ℕ) (s : is_size m ≡ true) where
       bounds_true (stair (m - 1) (i - 1)) (stair_falls (m - 1) (i - 1) within) m i (ones_below (stair (m - 1) (i - 1)) (stair_row (m - 1) (i - 1))) v ∙
       eq-eqb i (suc (ones (stair (m - 1) (i - 1)))) (omega arith)
 
-  lists_at : LawfulLists m (m - 1) (links m) (bounds m)
+  pub lists_at : LawfulLists m (m - 1) (links m) (bounds m)
   lists_at = record {
     width_least = let t = two in omega arith;
     width_most = let t = sixty_four in omega arith;
@@ -97,6 +97,10 @@ module _ (m : ℕ) (s : is_size m ≡ true) where
 
 pub full_regular_lawful : Lawful full_regular
 full_regular_lawful = lists_keep (λ m. m - 1) links bounds lists_at
+
+-- the bounds speak of the Booleans 1 to 127
+pub bounds_narrow : (m i : ℕ) → is_size m ≡ true → is_value m i ≡ true → every (local 127) (bounds m i) ≡ true
+bounds_narrow m i s v = lists_narrow m (m - 1) (links m) (bounds m) (lists_at m s) i v
 
 -- a row of FR reads as one more than its ones where no 1 follows a 0
 pub reading_falls : (m : ℕ) (bits : List ℕ) → is_size m ≡ true → (r f : Bool) → row (m - 1) bits ≡ r → falls bits ≡ f →
