@@ -1,18 +1,14 @@
 // The mapping FL: the Booleans are binary digits that spell a value.
-ghost use Rattle.std.specs.Prelude.{◌≡◌, ◌<◌, ◌≤◌, true, map, length};
-ghost use Rattle.mapping.specs.Meanings.{is_size, is_value};
-ghost use Rattle.mapping.specs.Memory.{over};
+ghost use Rattle.std.specs.Prelude.{◌≡◌, ◌≤◌, length};
 ghost use Rattle.encodings.specs.Digits.{digit_literal, spelled};
 ghost use Rattle.encodings.specs.FullLogarithmic.{pattern, full_logarithmic};
-ghost use Rattle.encodings.specs.ListedForms.{signed_literal};
-ghost use Rattle.encodings.proofs.Patterns.{full_logarithmic_lawful};
+ghost use Rattle.encodings.proofs.Patterns.{full_logarithmic_lawful, pattern_narrow};
 
-use super::literals::{kind, signed};
-use encodings::Digits;
+use encodings::{Digits, Listed, write_form};
 use formula::Sign;
-use mapping::{AXIOM_WORDS, FORM_LITERALS, Kind, Mapping, Shape, in_sizes, in_values};
+use mapping::{AXIOM_WORDS, Choice, FORM_LITERALS, Mapping, Shape, in_sizes};
 
-#[derive(Clone, Copy)]
+#[derive(Clone, Copy, Debug, PartialEq, Eq)]
 pub struct FullLogarithmic;
 
 // The digit behind those that are skipped, as 1 or as 0.
@@ -24,40 +20,35 @@ fn digit_literal(skipped: u32, bit: u32) -> i32
     if bit == 1 { digit } else { -digit }
 }
 
-// Writes the lowest digits of a number, so many of them and the highest first, as the Booleans behind those that are skipped.
-fn write_digits(
-    sign: Sign,
-    skipped: u32,
-    count: usize,
-    number: u32,
-    places: &mut [i32; FORM_LITERALS],
-)
-    requires { (skipped ≤ 1) × (count ≤ 6) }
-    ensures { places.new ≡ over (map (signed_literal sign) (spelled skipped count number)) places.old }
+// Writes the lowest digits of a number, one in each place and the highest first, as the Booleans behind those that are skipped.
+fn write_digits(skipped: u32, number: u32, places: &mut [i32])
+    requires { (skipped ≤ 1) × (length places.old ≤ 6) }
+    ensures { places.new ≡ spelled skipped (length places.old) number }
 {
-    let mut before = skipped;
-    let mut rest = number;
-    for place in (0..count).rev() {
-        places[place] = signed(sign, digit_literal(before, rest % 2));
-        before += 1;
-        rest /= 2;
+    let count = places.len();
+    for (place, literal) in places.iter_mut().enumerate() {
+        let digit = (count - 1 - place) as u32;
+        *literal = digit_literal(skipped + digit, (number >> digit) % 2);
     }
 }
 
-// Writes the literals of a value with a sign, and answers their number.
-fn write_pattern(size: u32, sign: Sign, value: u32, places: &mut [i32; FORM_LITERALS]) -> usize
-    requires { (is_size size ≡ true) × (is_value size value ≡ true) }
-    ensures count { result ≡ length (pattern size value) }
-    ensures places { places.new ≡ over (map (signed_literal sign) (pattern size value)) places.old }
-{
-    let Digits { count, spare } = Digits::of_size(size);
-    let count = count as usize;
-    if value <= spare {
-        write_digits(sign, 1, count - 1, value - 1, places);
-        count - 1
-    } else {
-        write_digits(sign, 0, count, value - 1 + spare, places);
-        count
+// The pattern of a value: each of the first values leaves its lowest digit out, while there are spare patterns.
+impl Listed for FullLogarithmic {
+    ghost list = { pattern };
+
+    ghost narrow = { pattern_narrow };
+
+    fn write_list(&self, choice: Choice, places: &mut [i32; FORM_LITERALS]) -> usize {
+        let Choice { size, value } = choice;
+        let Digits { count, spare } = Digits::of_size(size);
+        let count = count as usize;
+        if value <= spare {
+            write_digits(1, value - 1, &mut places[..count - 1]);
+            count - 1
+        } else {
+            write_digits(0, value - 1 + spare, &mut places[..count]);
+            count
+        }
     }
 }
 
@@ -79,17 +70,7 @@ impl Mapping for FullLogarithmic {
     }
 
     fn form(&self, size: u32, sign: Sign, value: u32, places: &mut [i32; FORM_LITERALS]) -> Shape {
-        if in_values(size, value) {
-            Shape {
-                kind: kind(sign),
-                count: write_pattern(size, sign, value, places),
-            }
-        } else {
-            Shape {
-                kind: Kind::AnyOf,
-                count: 0,
-            }
-        }
+        write_form(self, size, sign, value, places)
     }
 
     // Weighs the digits. Two patterns that differ in the lowest digit stand for one value, while there are spare ones.

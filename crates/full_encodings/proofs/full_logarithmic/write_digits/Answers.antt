@@ -1,17 +1,22 @@
--- Each turn writes the lowest of the digits that are left.
-use Rattle.std.proofs.Common.{ap, ◌∙◌, arith, length-set, w32, SFits, rules}
+-- Each turn writes one more of the digits.
+use Rattle.std.proofs.Common.{length, sym, ◌∙◌, arith, w32, SFits, rules}
 use Rattle.std.proofs.lemmas.Int.{to_z-of_z}
-use Rattle.encodings.specs.ListedForms.{signed_literal}
-use Rattle.full_encodings.proofs.Spelled.{digits_written}
+use Rattle.encodings.specs.Digits.{spelled}
+use Rattle.encodings.proofs.Spelling.{spelled_length}
+use Rattle.full_encodings.proofs.Spelled.{digit_at, front_more, front_all}
 use Rattle.full_encodings.proofs.full_logarithmic.write_digits.Goals as goal
 
 pub loop-place-preserved : goal.loop-place-preserved
 loop-place-preserved c =
-    let sign = signed_literal c.args.sign in
-    let f : SFits w32 c.signed.result = search rules in
+    let count = length c.args.places.now in
+    let long = spelled_length c.args.skipped count c.args.number in
     let g : SFits w32 c.digit_literal.result = search rules in
-    let e = to_z-of_z w32 c.signed.result f ∙ (c.signed.ensures ∙ ap sign (to_z-of_z w32 c.digit_literal.result g ∙ c.digit_literal.ensures)) in (
-      omega arith,
-      simp length-set (omega arith),
-      digits_written sign c.loop-place.before c.loop-place.place c.loop-place.rest _ c.loop-place.places (omega arith) (omega arith) e ∙ c.loop-place.invariant.2,
-    )
+    front_more (spelled c.args.skipped count c.args.number) c.args.places.now c.loop-place.places c.loop-place.place _ (omega arith) (omega arith)
+    (to_z-of_z w32 c.digit_literal.result g ∙ (c.digit_literal.ensures ∙ sym (digit_at c.args.skipped count c.args.number c.loop-place.place c.loop-place-test.true)))
+    c.loop-place.invariant
+
+pub returns : goal.returns
+returns c =
+    let count = length c.args.places.now in
+    let long = spelled_length c.args.skipped count c.args.number in
+    c.loop-place.invariant ∙ front_all (spelled c.args.skipped count c.args.number) c.args.places.now c.loop-place.place long (omega arith)
