@@ -2,6 +2,7 @@ pub mod Appending
 pub mod AxiomCounts
 pub mod DigitCounts
 pub mod Exclusions
+pub mod Fronts
 pub mod Hot
 pub mod HotScans
 pub mod Known

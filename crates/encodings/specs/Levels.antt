@@ -14,7 +14,6 @@ use Rattle.encodings.specs.Readers.{LawfulLists, lists_keep, lists_narrow, read_
 use Rattle.encodings.specs.Runs.{every_numbers, words_numbers}
 use Rattle.encodings.specs.Rows.{row_length}
 use Rattle.encodings.specs.Links.{at_least_is, less_than_is, at_least_local, less_than_local, link_local, satisfies_links}
-use Rattle.encodings.specs.Scans.{scan, scan_is}
 
 -- a value is the first, the last or an inner one
 pub bounds_by : (P : List ℤ → Type 0) (m i : ℕ) → is_value m i ≡ true → (i ≡ 1 → P (less_than 2 ∷ [])) →
@@ -110,10 +109,3 @@ reading_falls m bits s true true r f = reading_within full_regular_within m s bi
     (value_from m (suc (ones bits)) (omega arith) (ones_below m s bits r)) (λ j v. bounds_true bits f m j (ones_below m s bits r) v)
 reading_falls m bits s true false r f = reading_within full_regular_within m s bits r ∙ read_unsatisfied links full_regular_within.form m bits (falls_where m s bits r ∙ f)
 reading_falls m bits s false f r e = reading_no_row full_regular_within m bits r
-
--- so it is read in one pass
-pub reading_scanned : (m : ℕ) (bits : List ℕ) → is_size m ≡ true → length bits ≡ m - 1 → full_regular.reading m bits ≡ scan true 1 bits
-reading_scanned m bits s l =
-    let e : suc (ones bits) ≡ 1 + ones bits = omega arith in
-    reading_falls m bits s (row (m - 1) bits) (falls bits) refl refl ∙
-    (ap₂ (λ w n. cond (row w bits && falls bits) (Some n) None) (sym l) e ∙ sym (scan_is true 1 bits))

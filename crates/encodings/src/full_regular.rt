@@ -77,15 +77,10 @@ impl Mapping for FullRegular {
         if !in_sizes(size) || bits.len() != (size - 1) as usize {
             return None;
         }
-        let mut value = 1;
-        let mut falling = true;
-        for bit in bits {
-            match *bit {
-                0 => falling = false,
-                1 if falling => value += 1,
-                _ => return None,
-            }
-        }
-        Some(value)
+        let ones = bits.iter().take_while(|bit| **bit == 1).count();
+        bits[ones..]
+            .iter()
+            .all(|bit| *bit == 0)
+            .then_some(ones as u32 + 1)
     }
 }
