@@ -83,14 +83,12 @@ impl Mapping for FullLogarithmic {
             return None;
         }
         let mut number = 0;
-        let mut weight = 1;
-        for bit in bits {
+        for (digit, bit) in bits.iter().enumerate() {
             match *bit {
                 0 => {}
-                1 => number += weight,
+                1 => number += 1 << digit,
                 _ => return None,
             }
-            weight *= 2;
         }
         if number / 2 < spare {
             Some(number / 2 + 1)
