@@ -75,11 +75,8 @@ impl Mapping for FullLogarithmic {
 
     // Weighs the digits. Two patterns that differ in the lowest digit stand for one value, while there are spare ones.
     fn reading(&self, size: u32, bits: &[u8]) -> Option<u32> {
-        if !in_sizes(size) {
-            return None;
-        }
         let Digits { count, spare } = Digits::of_size(size);
-        if bits.len() != count as usize {
+        if !in_sizes(size) || bits.len() != count as usize {
             return None;
         }
         let mut number = 0;

@@ -1,18 +1,22 @@
 -- The pass over the digits gives the number, and the number the reading.
-use Rattle.std.proofs.Common.{◌^◌, Some, sym, refl, ap, ◌∙◌, arith, rules}
+use Rattle.std.proofs.Common.{◌^◌, Some, sym, refl, ap, ◌∙◌, arith}
 use Rattle.std.proofs.lemmas.Bool.{cond_below, cond_above}
 use Rattle.encodings.specs.FullLogarithmic.{full_logarithmic_within}
 use Rattle.encodings.proofs.DigitCounts.{digits_few, weight_few, power_doubled}
-use Rattle.encodings.specs.Guard.{reading_no_row}
+use Rattle.encodings.specs.Guard.{reading_no_size, reading_no_row}
 use Rattle.encodings.specs.Rows.{row_refused}
 use Rattle.encodings.proofs.Weighing.{weighing_zero, weighing_one, reading_ended, reading_stopped}
 use Rattle.full_encodings.proofs.full_logarithmic.FullLogarithmicMapping.reading.Goals as goal
-use Rattle.full_encodings.proofs.full_logarithmic.FullLogarithmicMapping.reading.Goals.{in-0, in-1}
+use Rattle.full_encodings.proofs.full_logarithmic.FullLogarithmicMapping.reading.Goals.{in-0, in-1, then-not-in_sizes-via-then-not-in_sizes, then-not-in_sizes-via-else-not-in_sizes+then-bits-count}
 
-pub returns-then-bits-count : goal.returns-then-bits-count
-returns-then-bits-count c =
-    sym (reading_no_row full_logarithmic_within c.args.size c.args.bits.now
-    (row_refused _ c.args.bits.now (λ e. c.if-bits-count.true (e ∙ sym c.of_size-count.ensures.count))))
+pub returns-then-not-in_sizes : goal.returns-then-not-in_sizes
+returns-then-not-in_sizes c =
+    elim c.then-not-in_sizes.branch [
+      | then-not-in_sizes-via-then-not-in_sizes w ↦ sym (reading_no_size full_logarithmic_within c.args.size c.args.bits.now (sym w.if-not-in_sizes.ensures))
+      | then-not-in_sizes-via-else-not-in_sizes+then-bits-count w ↦
+          sym (reading_no_row full_logarithmic_within c.args.size c.args.bits.now
+          (row_refused _ c.args.bits.now (λ e. w.if-bits-count.true (e ∙ sym c.of_size-count.ensures.count))))
+    ]
 
 pub overflow_shl-number : goal.overflow_shl-number
 overflow_shl-number c = let few = digits_few c.args.size (sym c.if-not-in_sizes.ensures) in let found = c.of_size-count.ensures.count in omega arith
