@@ -1,8 +1,9 @@
 -- Words written one by one, or part by part, from a place of memory on.
-use Rattle.std.proofs.Common.{◌≡◌, ℕ, suc, ◌+◌, ◌-◌, ◌<◌, ◌≤◌, List, [], ◌∷◌, ◌++◌, length, take, drop, set, ℤ, sym, refl, ap, ◌∙◌, subst, ap₂, append_assoc, arith, length-append, length-drop}
+use Rattle.std.proofs.Common.{◌≡◌, ℕ, suc, ◌+◌, ◌-◌, ◌<◌, ◌≤◌, List, [], ◌∷◌, ◌++◌, length, get_or, take, drop, set, ℤ, pos, sym, refl, ap, ◌∙◌, subst, ap₂, append_assoc, arith, length-append, length-drop}
 use borrow.Rule.Slice.PartMut.{put_mid}
 use Rattle.std.proofs.lemmas.List.{take_more_set, drop-set-lt, take-append-drop, length-set, length-take, take_rest, take_at, drop_all, drop_at, drop-drop, append-nil}
-use Rattle.mapping.specs.Memory.{over, written}
+use Rattle.std.proofs.Math.Seq.{drop-cons, set-append_seam}
+use Rattle.mapping.specs.Memory.{ended, over, written}
 
 -- one word, and then the rest behind it
 pub written_more : (memory : List ℤ) (n : ℕ) (w : ℤ) (ws : List ℤ) → n < length memory →
@@ -101,3 +102,13 @@ appending_many before memory next start n xs rest all h e w =
       words = let k = w.words in omega (arith, length-append xs rest);
       long = ap length e ∙ (length_written memory n xs (omega arith) ∙ l);
     }
+
+-- words at the front, and a 0 behind them
+pub ended_over : (xs part memory : List ℤ) → part ≡ xs → length xs < length memory →
+    set (part ++ drop (length xs) memory) (length xs) (pos 0) ≡ over (ended xs) memory
+ended_over xs part memory e h =
+    let next : suc (length xs) ≡ length (ended xs) = omega (arith, length-append xs (pos 0 ∷ [])) in
+    ap (λ ys. set (ys ++ drop (length xs) memory) (length xs) (pos 0)) e ∙
+    (ap (λ ys. set (xs ++ ys) (length xs) (pos 0)) (drop-cons memory (length xs) (pos 0) h) ∙
+    (set-append_seam xs (get_or memory (length xs) (pos 0)) (drop (suc (length xs)) memory) (pos 0) ∙
+    (sym (append_assoc xs (pos 0 ∷ []) (drop (suc (length xs)) memory)) ∙ ap (λ n. ended xs ++ drop n memory) next)))

@@ -1,5 +1,6 @@
 -- The digits of a size are the least number of them that has a pattern for each value.
-use Rattle.std.proofs.Common.{◌≡◌, ℕ, zero, suc, ◌+◌, ◌-◌, ◌*◌, ◌^◌, ◌<◌, ◌≤◌, true, leb, sym, ap, ◌∙◌, subst, ⊎_elim, arith}
+use Rattle.std.proofs.Common.{◌≡◌, ℕ, zero, suc, ◌+◌, ◌-◌, ◌*◌, ◌/◌, ◌^◌, ◌<◌, ◌≤◌, max, true, leb, sym, ap, ◌∙◌, subst, ⊎_elim, arith}
+use Rattle.std.specs.Int.{IsPowerOfTwo}
 use native.Mathlib.Nat.{two-pow-succ, pow-le-pow_right}
 use Rattle.std.proofs.lemmas.Bool.{leb-true, leb-false, cond_both, cases_lt}
 use Rattle.mapping.specs.Meanings.{is_size}
@@ -61,14 +62,28 @@ digits_above m k h =
 pub digits_reached : (m k : ℕ) → m ≤ 2 ^ k → digits m ≤ k
 digits_reached m k h = ⊎_elim (λ lt. let e = digits_least m k lt in absurd (omega arith)) (λ le. le) (cases_lt k (digits m))
 
--- patterns that double with each digit, until there are enough
-pub doubling_more : (m k p : ℕ) → p ≡ 2 ^ k → p < m → (p * 2 ≡ 2 ^ (k + 1)) × (k + 1 ≤ digits m)
-doubling_more m k p e h = let above = digits_above m k (omega arith) in (power_doubled k p e, omega arith)
+-- a power of two is known by its digits
+power_of : (j k : ℕ) → 2 ^ k ≤ 2 ^ j → 2 ^ j < 2 * 2 ^ k → k ≡ j
+power_of j k low high =
+    ⊎_elim (λ lt. let g = power_grows (suc j) k lt in let e = power_more j in let one = power_grows 0 j (omega arith) in absurd (omega arith))
+    (λ le. ⊎_elim (λ lt. let g = power_grows (suc k) j lt in let e = power_more k in absurd (omega arith)) (λ ge. omega arith) (cases_lt k j))
+    (cases_lt j k)
 
-pub doubling_all : (m k p : ℕ) → p ≡ 2 ^ k → k ≤ digits m → m ≤ p → (k ≡ digits m) × (p - m ≡ spare m)
-doubling_all m k p e h enough =
-    let reached = digits_reached m k (omega arith) in
-    let all : k ≡ digits m = omega arith in (all, ap (λ q. q - m) (e ∙ ap (λ j. 2 ^ j) all))
+-- the first power of two that has a pattern for each value has the digits of the size
+power_digits : (m k : ℕ) → m ≤ 2 ^ k → 2 ^ k / 2 < max 1 m → k ≡ digits m
+power_digits m zero enough first = let h = digits_reached m 0 enough in omega arith
+power_digits m (suc k) enough first =
+    let one = power_grows 0 k (omega arith) in
+    let e = power_more k in
+    let below : 2 ^ k < m = omega arith in
+    let h = digits_reached m (suc k) enough in
+    let l = digits_above m k below in omega arith
+
+pub next_power : (m p k : ℕ) → IsPowerOfTwo p → m ≤ p → p / 2 < max 1 m → 2 ^ k ≤ p → p < 2 * 2 ^ k → (k ≡ digits m) × (p ≡ 2 ^ digits m)
+next_power m p k power enough first low high =
+    let e = power.1 in
+    let same = power_digits m power.0 (omega arith) (subst (λ q. q / 2 < max 1 m) e first) in
+    (power_of power.0 k (omega arith) (omega arith) ∙ same, e ∙ ap (λ j. 2 ^ j) same)
 
 -- sizes 2 to 64
 module _ (m : ℕ) (s : is_size m ≡ true) where
@@ -102,17 +117,5 @@ module _ (m : ℕ) (s : is_size m ≡ true) where
       (cases_lt 1 (digits m))
 
   -- a digit weighs at most 32
-  pub weight_few : (k i w : ℕ) → k ≡ digits m → i < k → w ≡ 2 ^ i → w ≤ 32
-  weight_few k i w e h is = let few = digits_few in let grows = power_grows i 5 (omega arith) in omega arith
-
--- numbers of 32 bits have at most 32 digits, and fewer than 2^32 patterns to spare
-pub digits_most : (m : ℕ) → m < 2 ^ 32 → digits m ≤ 32
-digits_most m h = digits_reached m 32 (omega arith)
-
-pub spare_below : (m k p : ℕ) → p ≡ 2 ^ k → k ≤ digits m → m < 2 ^ 32 → p - m < 2 ^ 32
-spare_below zero k p e h small =
-    let none = digits_reached 0 0 (omega arith) in
-    let grows = power_grows k 0 (omega arith) in omega arith
-spare_below (suc m) k p e h small =
-    let most = digits_most (suc m) small in
-    let grows = power_grows k 32 (omega arith) in omega arith
+  pub weight_few : (k i : ℕ) → k ≡ digits m → i < k → 2 ^ i ≤ 32
+  weight_few k i e h = let few = digits_few in power_grows i 5 (omega arith)

@@ -2,11 +2,13 @@ pub mod Appending
 pub mod AxiomCounts
 pub mod DigitCounts
 pub mod Exclusions
+pub mod Fronts
 pub mod Hot
 pub mod HotScans
 pub mod Known
+pub mod LinkWriting
 pub mod LogarithmicLaws
-pub mod Members
+pub mod Mapped
 pub mod Outside
 pub mod PatternCounts
 pub mod Patterns

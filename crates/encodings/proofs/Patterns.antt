@@ -10,7 +10,7 @@ use Rattle.encodings.specs.FullLogarithmic.{pattern, full_logarithmic_within, fu
 use Rattle.encodings.proofs.DigitCounts.{digits_some, digits_few, digits_more, patterns_twice, spare_most, spare_less, spare_sum}
 use Rattle.encodings.specs.Guard.{reading_within}
 use Rattle.encodings.specs.Limits.{value_low, value_high, value_from}
-use Rattle.encodings.specs.Readers.{LawfulLists, lists_keep, read_shown}
+use Rattle.encodings.specs.Readers.{LawfulLists, lists_keep, lists_narrow, read_shown}
 use Rattle.encodings.proofs.Spelling.{weighed, weighed_below, digit_row, digit_row_row, digit_row_weighed, spelled_true, half_true, spelled_local, spelled_length}
 
 -- the value of the pattern of a number, with so many spare ones
@@ -119,6 +119,10 @@ module _ (m : ℕ) (s : is_size m ≡ true) where
 
 pub full_logarithmic_lawful : Lawful full_logarithmic
 full_logarithmic_lawful = lists_keep digits (λ m. []) pattern lists_at
+
+-- the patterns speak of the Booleans 1 to 127
+pub pattern_narrow : (m i : ℕ) → is_size m ≡ true → is_value m i ≡ true → every (local 127) (pattern m i) ≡ true
+pattern_narrow m i s v = lists_narrow m (digits m) [] (pattern m) (lists_at m s) i v
 
 -- a row of FL reads as what its number shows
 pub reading_weighed : (m : ℕ) (bits : List ℕ) → is_size m ≡ true → row (digits m) bits ≡ true →

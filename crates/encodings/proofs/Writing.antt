@@ -1,9 +1,10 @@
 -- Clauses written at the front of memory.
-use Rattle.std.proofs.Common.{◌≡◌, ℕ, ◌+◌, ◌-◌, ◌≤◌, List, [], ◌∷◌, ◌++◌, length, take, drop, set, ℤ, pos, ap, ◌∙◌, subst, arith, length-append}
+use Rattle.std.proofs.Common.{◌≡◌, ℕ, ◌+◌, ◌-◌, ◌<◌, ◌≤◌, List, [], ◌∷◌, ◌++◌, length, take, drop, set, ℤ, pos, sym, ap, ◌∙◌, subst, append-nil, arith, length-append, length-drop}
 use borrow.Rule.Slice.PartMut.{put_mid}
-use Rattle.formula.specs.Boolean.{Clause, words_of}
+use Rattle.std.proofs.lemmas.List.{length-take}
+use Rattle.formula.specs.Boolean.{Clause, words, words_of}
 use Rattle.mapping.proofs.Moving.{length_flat, flat_append}
-use Rattle.mapping.specs.Memory.{flat, over}
+use Rattle.mapping.specs.Memory.{ended, flat, over}
 use Rattle.encodings.proofs.Appending.{Appending, appending_none, appending_all, appending_three, appending_many, written_start, written_part}
 
 -- a pass over clauses: with n words written, the clauses that are left make memory what it is to be
@@ -34,3 +35,26 @@ writing_part before memory part n long cs rest all m h e w =
     (appending_many before memory (put_mid n (long - n) memory part) 0 n (flat cs) (flat rest) (flat all)
     (omega (arith, length_flat all, length-append (flat cs) (flat rest))) (written_part memory part n long (flat cs) m e)
     (subst (λ ws. Appending before memory 0 n ws (flat all)) (flat_append cs rest) w))
+
+-- a clause written into that part, where it has room
+abbrev pub ClauseWritten : Clause → List ℤ → ℕ → List ℤ → Type 0
+ClauseWritten c lent k part = length c < length lent → (k ≡ words c) × (part ≡ over (ended c) lent)
+
+pub writing_clause : (before memory part : List ℤ) (n long k : ℕ) (c : Clause) (rest all : List Clause) → long ≡ length memory → words_of all ≤ length before →
+    ClauseWritten c (take (long - n) (drop n memory)) k part → Writing before memory n (c ∷ rest) all →
+    Writing before (put_mid n (long - n) memory part) (n + k) rest all
+writing_clause before memory part n long k c rest all m h written w =
+    let sum = w.words in
+    let l = w.long in
+    let room : length c < length (take (long - n) (drop n memory)) =
+    simp (length-take, length-drop) (omega (arith, length_flat all, length_flat (c ∷ rest))) in
+    let e = written room in
+    let whole : part ≡ over (flat (c ∷ [])) (take (long - n) (drop n memory)) =
+    e.1 ∙ ap (λ ws. over ws (take (long - n) (drop n memory))) (sym (append-nil (ended c))) in
+    let count : words_of (c ∷ []) ≡ k = omega (arith, e.0) in
+    subst (λ i. Writing before (put_mid n (long - n) memory part) (n + i) rest all) count (writing_part before memory part n long (c ∷ []) rest all m h whole w)
+
+-- where all of the clauses fit, the words so far do
+pub writing_room : (before memory : List ℤ) (n : ℕ) (rest all : List Clause) → words_of all ≤ length before → Writing before memory n rest all →
+    (n ≤ length before) × Writing before memory n rest all
+writing_room before memory n rest all h w = let sum = w.words in (omega (arith, length_flat all), w)

@@ -10,11 +10,10 @@ use Rattle.encodings.specs.FullRegular.{at_least, less_than, link, links, bounds
 use Rattle.encodings.specs.Descents.{ones, falls, ones_most, on_below, stair, stair_row, stair_ones, stair_falls}
 use Rattle.encodings.specs.Guard.{reading_within, reading_no_row}
 use Rattle.encodings.specs.Limits.{size_low, size_high, value_low, value_high, value_from}
-use Rattle.encodings.specs.Readers.{LawfulLists, lists_keep, read_shown, read_unsatisfied}
+use Rattle.encodings.specs.Readers.{LawfulLists, lists_keep, lists_narrow, read_shown, read_unsatisfied}
 use Rattle.encodings.specs.Runs.{every_numbers, words_numbers}
 use Rattle.encodings.specs.Rows.{row_length}
 use Rattle.encodings.specs.Links.{at_least_is, less_than_is, at_least_local, less_than_local, link_local, satisfies_links}
-use Rattle.encodings.specs.Scans.{scan, scan_is}
 
 -- a value is the first, the last or an inner one
 pub bounds_by : (P : List ℤ → Type 0) (m i : ℕ) → is_value m i ≡ true → (i ≡ 1 → P (less_than 2 ∷ [])) →
@@ -77,7 +76,7 @@ module _ (m : ℕ) (s : is_size m ≡ true) where
       bounds_true (stair (m - 1) (i - 1)) (stair_falls (m - 1) (i - 1) within) m i (ones_below (stair (m - 1) (i - 1)) (stair_row (m - 1) (i - 1))) v ∙
       eq-eqb i (suc (ones (stair (m - 1) (i - 1)))) (omega arith)
 
-  lists_at : LawfulLists m (m - 1) (links m) (bounds m)
+  pub lists_at : LawfulLists m (m - 1) (links m) (bounds m)
   lists_at = record {
     width_least = let t = two in omega arith;
     width_most = let t = sixty_four in omega arith;
@@ -98,6 +97,10 @@ module _ (m : ℕ) (s : is_size m ≡ true) where
 pub full_regular_lawful : Lawful full_regular
 full_regular_lawful = lists_keep (λ m. m - 1) links bounds lists_at
 
+-- the bounds speak of the Booleans 1 to 127
+pub bounds_narrow : (m i : ℕ) → is_size m ≡ true → is_value m i ≡ true → every (local 127) (bounds m i) ≡ true
+bounds_narrow m i s v = lists_narrow m (m - 1) (links m) (bounds m) (lists_at m s) i v
+
 -- a row of FR reads as one more than its ones where no 1 follows a 0
 pub reading_falls : (m : ℕ) (bits : List ℕ) → is_size m ≡ true → (r f : Bool) → row (m - 1) bits ≡ r → falls bits ≡ f →
     full_regular.reading m bits ≡ cond (r && f) (Some (suc (ones bits))) None
@@ -106,10 +109,3 @@ reading_falls m bits s true true r f = reading_within full_regular_within m s bi
     (value_from m (suc (ones bits)) (omega arith) (ones_below m s bits r)) (λ j v. bounds_true bits f m j (ones_below m s bits r) v)
 reading_falls m bits s true false r f = reading_within full_regular_within m s bits r ∙ read_unsatisfied links full_regular_within.form m bits (falls_where m s bits r ∙ f)
 reading_falls m bits s false f r e = reading_no_row full_regular_within m bits r
-
--- so it is read in one pass
-pub reading_scanned : (m : ℕ) (bits : List ℕ) → is_size m ≡ true → length bits ≡ m - 1 → full_regular.reading m bits ≡ scan true 1 bits
-reading_scanned m bits s l =
-    let e : suc (ones bits) ≡ 1 + ones bits = omega arith in
-    reading_falls m bits s (row (m - 1) bits) (falls bits) refl refl ∙
-    (ap₂ (λ w n. cond (row w bits && falls bits) (Some n) None) (sym l) e ∙ sym (scan_is true 1 bits))

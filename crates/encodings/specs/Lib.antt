@@ -11,8 +11,6 @@ pub mod Opposites
 pub mod Runs
 pub mod Rows
 pub mod Links
-pub mod Writing
-pub mod Scans
 pub mod Digits
 pub mod FullLogarithmic
 pub mod HalfRegular

@@ -1,17 +1,14 @@
 -- FR's literals and links: a row satisfies the links exactly when no 1 follows a 0.
-use Rattle.std.specs.Prelude.{◌≡◌, ℕ, zero, suc, ◌+◌, ◌-◌, ◌<◌, ◌≤◌, Bool, true, false, cond, not, ◌&&◌, ◌||◌, List, [], ◌∷◌, map, length, ℤ, pos, negsuc, ◌==◌, slice_index, slice_set, refl}
-use Rattle.std.proofs.Common.{sym, ap, ap₂, subst, ◌∙◌, arith}
+use Rattle.std.specs.Prelude.{◌≡◌, ℕ, zero, suc, ◌+◌, ◌-◌, ◌<◌, ◌≤◌, Bool, true, false, cond, not, ◌&&◌, ◌||◌, List, [], ◌∷◌, map, length, ℤ, pos, negsuc, ◌==◌, slice_index, refl}
+use Rattle.std.proofs.Common.{ap, ap₂, ◌∙◌, arith}
 use Rattle.std.proofs.lemmas.Bool.{and_from}
 use Rattle.std.proofs.lemmas.Bool.Decides.{nat_tests}
-use Rattle.formula.specs.Boolean.{Clause, opposite, satisfies, local, words_of}
+use Rattle.formula.specs.Boolean.{Clause, opposite, satisfies, local}
 use Rattle.formula.specs.Sheets.{numbers}
 use Rattle.formula.specs.Tests.{every}
-use Rattle.mapping.specs.Memory.{flat, over}
 use Rattle.encodings.specs.FullRegular.{at_least, less_than, link, links}
 use Rattle.encodings.specs.Descents.{ones, falls}
 use Rattle.encodings.specs.Opposites.{opposite_local}
-use Rattle.encodings.specs.Runs.{numbers_more, numbers_none}
-use Rattle.encodings.specs.Writing.{Writing, writing_pair, writing_all}
 
 -- the literals as numbers, and within the width
 pub at_least_is : (k : ℕ) → at_least (suc (suc k)) ≡ pos (suc k)
@@ -74,18 +71,3 @@ pub link_local : (m j : ℕ) → 1 < j → j < m → every (local (m - 1)) (link
 link_local m j low high =
     and_from (local (m - 1) (less_than (j + 1))) (local (m - 1) (at_least j) && true) (less_than_local m (j + 1) (omega arith) (omega arith))
     (ap (λ t. t && true) (at_least_local m j low (omega arith)))
-
--- a pass over the links writes them one by one
-pub links_more : (before memory : List ℤ) (n j m : ℕ) (x y : ℤ) (all : List Clause) → j < m → n + 3 ≤ length before →
-    x ≡ less_than (j + 1) → y ≡ at_least j → Writing before memory n (map link (numbers j (m - j))) all →
-    Writing before (slice_set (slice_set (slice_set memory n x) (n + 1) y) (n + 2) (pos 0)) (n + 3) (map link (numbers (j + 1) (m - (j + 1)))) all
-links_more before memory n j m x y all h l first second w =
-    let left = map link (numbers (j + 1) (m - (j + 1))) in
-    let parts : map link (numbers j (m - j)) ≡ (x ∷ y ∷ []) ∷ left =
-    ap (map link) (numbers_more j m h) ∙ ap₂ (λ (a b : ℤ). (a ∷ b ∷ []) ∷ left) (sym first) (sym second) in
-    writing_pair before memory n x y left all l (subst (λ cs. Writing before memory n cs all) parts w)
-
-pub links_all : (before memory : List ℤ) (n j m : ℕ) (all : List Clause) → m ≤ j → Writing before memory n (map link (numbers j (m - j))) all →
-    (n ≡ words_of all) × (memory ≡ over (flat all) before)
-links_all before memory n j m all h w =
-    writing_all before memory n all (subst (λ js. Writing before memory n (map link js) all) (numbers_none j m h) w)

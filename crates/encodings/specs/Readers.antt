@@ -2,6 +2,8 @@
 use Rattle.std.specs.Prelude.{◌≡◌, ℕ, zero, suc, ◌+◌, ◌<◌, ◌≤◌, Bool, true, false, cond, List, length, ℤ, is_some, Some, None, Option, ◌==◌, ◌≢◌, refl}
 use Rattle.std.proofs.Common.{sym, ap, subst, ◌∙◌, arith}
 use Rattle.std.proofs.lemmas.Bool.{cond-true, cond-false, eqb-true, eqb-false}
+use Rattle.std.proofs.lemmas.Bool.Decides.{nat_tests}
+use Rattle.formula.proofs.Tests.{every_weaker}
 use Rattle.formula.specs.Boolean.{Clause, row, satisfies, local, words_of, true_literal}
 use Rattle.formula.specs.Sheets.{by_sign}
 use Rattle.formula.specs.Tests.{every}
@@ -116,6 +118,14 @@ pub record LawfulLists (m w : ℕ) (axioms : List Clause) (list : ℕ → List �
   pub axioms_words : words_of axioms ≤ 8192
   pub list_least : (i : ℕ) → is_value m i ≡ true → 1 ≤ length (list i)
   pub list_most : (i : ℕ) → is_value m i ≡ true → length (list i) ≤ 8
+
+-- such lists speak of the Booleans 1 to 127
+pub lists_narrow : (m w : ℕ) (axioms : List Clause) (list : ℕ → List ℤ) → LawfulLists m w axioms list →
+    (i : ℕ) → is_value m i ≡ true → every (local 127) (list i) ≡ true
+lists_narrow m w axioms list L i v = every_weaker (local w) (local 127) (narrower w 127 L.width_most) (list i) (L.list_local i v)
+  where
+    narrower : (a b : ℕ) → a ≤ b → (l : ℤ) → local a l ≡ true → local b l ≡ true
+    narrower a b h l e = grind (arith, nat_tests)
 
 lists_forms : (m w : ℕ) (axioms : List Clause) (list : ℕ → List ℤ) → LawfulLists m w axioms list →
     LawfulForms m w axioms (λ s i. form_by (list i) s)

@@ -1,17 +1,15 @@
 // The mapping FR: a Boolean for each value but the first says "this value or more".
-ghost use Rattle.std.specs.Prelude.{◌≡◌, ◌<◌, ◌≤◌, true, map, length};
-ghost use Rattle.mapping.specs.Meanings.{is_size, is_value};
-ghost use Rattle.mapping.specs.Memory.{over};
+ghost use Rattle.std.specs.Prelude.{◌≡◌, ◌<◌, ◌≤◌};
 ghost use Rattle.encodings.specs.FullRegular.{at_least, less_than, bounds, full_regular};
-ghost use Rattle.encodings.specs.ListedForms.{signed_literal};
-ghost use Rattle.encodings.specs.Levels.{full_regular_lawful};
+ghost use Rattle.encodings.specs.Levels.{full_regular_lawful, bounds_narrow};
 
-use super::literals::{kind, signed};
-use super::ranges::{in_sizes, in_values};
+use super::clauses::write_clause;
+use super::listed::{Listed, write_form};
+use arrayvec::ArrayVec;
 use formula::Sign;
-use mapping::{AXIOM_WORDS, FORM_LITERALS, Kind, Mapping, Shape};
+use mapping::{AXIOM_WORDS, Choice, FORM_LITERALS, Mapping, Shape, Size, in_sizes};
 
-#[derive(Clone, Copy)]
+#[derive(Clone, Copy, Debug, PartialEq, Eq)]
 pub struct FullRegular;
 
 // "Value j or more."
@@ -30,22 +28,22 @@ fn less_than(j: u32) -> i32
     -at_least(j)
 }
 
-// Writes the literals of a value with a sign, and answers their number.
-fn write_bounds(size: u32, sign: Sign, value: u32, places: &mut [i32; FORM_LITERALS]) -> usize
-    requires { (is_size size ≡ true) × (is_value size value ≡ true) }
-    ensures count { result ≡ length (bounds size value) }
-    ensures places { places.new ≡ over (map (signed_literal sign) (bounds size value)) places.old }
-{
-    if value == 1 {
-        places[0] = signed(sign, less_than(2));
-        1
-    } else if value == size {
-        places[0] = signed(sign, at_least(size));
-        1
-    } else {
-        places[0] = signed(sign, at_least(value));
-        places[1] = signed(sign, less_than(value + 1));
-        2
+// The bounds of a value.
+impl Listed for FullRegular {
+    ghost list = { bounds };
+
+    ghost narrow = { bounds_narrow };
+
+    fn literals(&self, choice: Choice) -> ArrayVec<i32, FORM_LITERALS> {
+        let Choice { size, value } = choice;
+        let mut bounds = ArrayVec::new();
+        if value > 1 {
+            bounds.push(at_least(value));
+        }
+        if value < size {
+            bounds.push(less_than(value + 1));
+        }
+        bounds
     }
 }
 
@@ -59,45 +57,29 @@ impl Mapping for FullRegular {
     }
 
     fn axioms(&self, size: u32, memory: &mut [i32; AXIOM_WORDS]) -> usize {
+        let Some(size) = Size::new(size) else {
+            return 0;
+        };
+        // kept: tried over chunks_exact_mut(3), after which nothing is known of the words (`returns-clause-memory` stayed open).
         let mut count = 0;
-        if in_sizes(size) {
-            for j in 2..size {
-                memory[count] = less_than(j + 1);
-                memory[count + 1] = at_least(j);
-                memory[count + 2] = 0;
-                count += 3;
-            }
+        for j in 2..size.count {
+            count += write_clause(&[less_than(j + 1), at_least(j)], &mut memory[count..]);
         }
         count
     }
 
     fn form(&self, size: u32, sign: Sign, value: u32, places: &mut [i32; FORM_LITERALS]) -> Shape {
-        if in_values(size, value) {
-            Shape {
-                kind: kind(sign),
-                count: write_bounds(size, sign, value, places),
-            }
-        } else {
-            Shape {
-                kind: Kind::AnyOf,
-                count: 0,
-            }
-        }
+        write_form(self, size, sign, value, places)
     }
 
     fn reading(&self, size: u32, bits: &[u8]) -> Option<u32> {
         if !in_sizes(size) || bits.len() != (size - 1) as usize {
             return None;
         }
-        let mut value = 1;
-        let mut falling = true;
-        for bit in bits {
-            match *bit {
-                0 => falling = false,
-                1 if falling => value += 1,
-                _ => return None,
-            }
-        }
-        Some(value)
+        let ones = bits.iter().take_while(|bit| **bit == 1).count();
+        bits[ones..]
+            .iter()
+            .all(|bit| *bit == 0)
+            .then_some(ones as u32 + 1)
     }
 }

@@ -1,12 +1,14 @@
 // The mappings from sized variables to Booleans.
 #![tactic(auto)]
 
+pub mod clauses;
 pub mod digits;
 pub mod full_regular;
-mod literals;
+pub mod listed;
 pub mod names;
-mod ranges;
 
+pub use clauses::write_clause;
 pub use digits::Digits;
 pub use full_regular::FullRegular;
-pub use names::Name;
+pub use listed::{Listed, write_form};
+pub use names::{Name, UnknownName};

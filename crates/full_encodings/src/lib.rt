@@ -2,6 +2,5 @@
 #![tactic(auto)]
 
 pub mod full_logarithmic;
-mod literals;
 
 pub use full_logarithmic::FullLogarithmic;

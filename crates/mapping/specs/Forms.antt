@@ -3,6 +3,8 @@ use Rattle.std.specs.Prelude.{ℕ, ◌+◌, Bool, List, [], ◌∷◌, ◌++◌,
 use Rattle.std.specs.List.{flat_map}
 use Rattle.formula.specs.Boolean.{Clause, true_literal}
 use Rattle.formula.specs.Tests.{every, some}
+use Rattle.formula.specs.declared.signed.Sign.{Sign}
+use Rattle.formula.specs.declared.signed.Sign.TheVariants.{Plus, Minus}
 use Rattle.mapping.specs.declared.Kind.{Kind}
 use Rattle.mapping.specs.declared.Kind.TheVariants.{AllOf, AnyOf}
 use Rattle.mapping.specs.declared.Shape.{Shape}
@@ -24,6 +26,11 @@ members (any_of ls) = ls
 abbrev pub kind_of : Form → Kind
 kind_of (all_of ls) = AllOf
 kind_of (any_of ls) = AnyOf
+
+-- the kind of the form of a sign: all of a value's literals with a plus, any of their opposites with a minus
+abbrev pub kind_by : Sign → Kind
+kind_by Plus = AllOf
+kind_by Minus = AnyOf
 
 abbrev pub shape_of : Form → Shape
 shape_of f = record { kind = kind_of f; count = length (members f) }

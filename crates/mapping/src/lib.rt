@@ -10,23 +10,40 @@ ghost use Rattle.formula.specs.Boolean.{words_of};
 pub mod limits;
 
 use formula::Sign;
-pub use limits::{in_sizes, in_values};
+pub use limits::{Choice, Size, in_sizes, in_values};
 
 // Whether a form asks for all of its literals or for one of them.
-#[derive(Clone, Copy)]
+#[derive(Clone, Copy, Debug, PartialEq, Eq)]
 pub enum Kind {
     AllOf,
     AnyOf,
 }
 
+// A plus asks for all of a value's literals, a minus for one of their opposites.
+impl From<Sign> for Kind {
+    ghost use Rattle.std.specs.Prelude.{◌≡◌};
+    ghost use Rattle.mapping.specs.Forms.{kind_by};
+
+    ghost from_gives = { λ s k. k ≡ kind_by s };
+
+    fn from(sign: Sign) -> Kind {
+        match sign {
+            Sign::Plus => Kind::AllOf,
+            Sign::Minus => Kind::AnyOf,
+        }
+    }
+}
+
 // The kind of a form and the number of its literals.
-#[derive(Clone, Copy)]
+// kept: the number stands apart from the literals, since these lie in places that are handed in and keep what is behind them.
+#[derive(Clone, Copy, Debug, PartialEq, Eq)]
 pub struct Shape {
     pub kind: Kind,
     pub count: usize,
 }
 
 // The words that the axioms of one size may have, and the literals that a form may have.
+// kept: arrays of these sizes are handed in, since no heap is below; each word behind what is written is promised to stay.
 pub const AXIOM_WORDS: usize = 8192;
 
 pub const FORM_LITERALS: usize = 8;

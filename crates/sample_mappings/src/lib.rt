@@ -9,11 +9,13 @@ ghost use Rattle.mapping.specs.Meanings.{Lawful};
 ghost use Rattle.mapping.specs.Memory.{flat, over};
 ghost use Rattle.sample_mappings.specs.Contradicting.{contradicting};
 
+use arrayvec::ArrayVec;
+use encodings::{Listed, write_clause, write_form};
 use formula::Sign;
-use mapping::{AXIOM_WORDS, FORM_LITERALS, Kind, Mapping, Shape, in_sizes, in_values};
+use mapping::{AXIOM_WORDS, Choice, FORM_LITERALS, Mapping, Shape, in_sizes};
 
 // The sample whose axioms contradict each other.
-#[derive(Clone, Copy)]
+#[derive(Clone, Copy, Debug, PartialEq, Eq)]
 pub struct Contradicting;
 
 // The laws do not hold of it, so nothing that is proved of every mapping says anything of a catalogue that it would empty.
@@ -36,39 +38,30 @@ fn write_axioms(size: u32, memory: &mut [i32; AXIOM_WORDS]) -> usize
     if !in_sizes(size) {
         return 0;
     }
-    memory[0] = 1;
-    memory[1] = 0;
-    memory[2] = -1;
-    memory[3] = 0;
-    4
+    let count = write_clause(&[1], memory);
+    count + write_clause(&[-1], &mut memory[count..])
 }
 
-fn write_form(size: u32, sign: Sign, value: u32, places: &mut [i32; FORM_LITERALS]) -> Shape
+// Every value would be the one Boolean.
+impl Listed for Contradicting {
+    ghost use Rattle.std.specs.Prelude.{[], ◌∷◌, pos, refl};
+
+    ghost list = { λ m i. pos 1 ∷ [] };
+
+    ghost narrow = { λ m i s v. refl };
+
+    fn literals(&self, choice: Choice) -> ArrayVec<i32, FORM_LITERALS> {
+        let mut literals = ArrayVec::new();
+        literals.push(1);
+        literals
+    }
+}
+
+fn form(size: u32, sign: Sign, value: u32, places: &mut [i32; FORM_LITERALS]) -> Shape
     ensures shape { result ≡ shape_of (contradicting.form size sign value) }
     ensures places { places.new ≡ over (members (contradicting.form size sign value)) places.old }
 {
-    if !in_values(size, value) {
-        return Shape {
-            kind: Kind::AnyOf,
-            count: 0,
-        };
-    }
-    match sign {
-        Sign::Plus => {
-            places[0] = 1;
-            Shape {
-                kind: Kind::AllOf,
-                count: 1,
-            }
-        }
-        Sign::Minus => {
-            places[0] = -1;
-            Shape {
-                kind: Kind::AnyOf,
-                count: 1,
-            }
-        }
-    }
+    write_form(&Contradicting, size, sign, value, places)
 }
 
 // Nothing is read, whatever the bits are.

@@ -1,21 +1,13 @@
--- The doubling ends at the digits of the size.
-use Rattle.std.proofs.Common.{rules}
-use Rattle.encodings.proofs.DigitCounts.{digits_most, spare_below, doubling_more, doubling_all}
+-- The next power of two has the digits of the size.
+use Rattle.std.proofs.Common.{◌-◌, ap₂, arith}
+use Rattle.encodings.proofs.DigitCounts.{next_power}
 use Rattle.encodings.proofs.digits.Digits.of_size.Goals as goal
 
-pub overflow_add-count : goal.overflow_add-count
-overflow_add-count c =
-    let most = digits_most c.args.size c.ranges.size.fits in
-    let more = (doubling_more _ _ _ c.loop-patterns.invariant.0 c.loop-patterns-test.true).1 in
-    search rules
-
 pub overflow_cast-result : goal.overflow_cast-result
-overflow_cast-result c = record { fits = spare_below c.args.size _ _ c.loop-patterns.invariant.0 c.loop-patterns.invariant.1 c.ranges.size.fits }
-
-pub loop-patterns-preserved : goal.loop-patterns-preserved
-loop-patterns-preserved c = doubling_more _ _ _ c.loop-patterns.invariant.0 c.loop-patterns-test.true
+overflow_cast-result c = record { fits = omega (arith, c.ranges.size.fits) }
 
 pub returns : goal.returns
 returns c =
-    let all = doubling_all _ _ _ c.loop-patterns.invariant.0 c.loop-patterns.invariant.1 c.loop-patterns-test.false in
-    record { count = all.0; spare = all.1 }
+    let p = c.next_power_of_two-patterns.ensures in
+    let e = next_power c.args.size _ c.ilog2.result p.power (omega arith) (omega arith) (omega arith) (omega arith) in
+    record { count = e.0; spare = ap₂ ◌-◌ e.1 c.from-values.ensures }

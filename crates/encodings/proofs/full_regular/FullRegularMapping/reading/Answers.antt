@@ -1,13 +1,17 @@
--- The pass over the bits gives the reading, and ends where the reading is none.
-use Rattle.std.proofs.Common.{◌<◌, get_or, sym, ◌∙◌, arith}
-use Rattle.std.proofs.lemmas.List.{at_drop_all}
+-- The ones at the front and what follows them give the reading.
+use Rattle.std.proofs.Common.{◌≡◌, ◌+◌, eqb, drop, sym, ap, ◌∙◌, ap₂, rules, tests}
+use Rattle.std.specs.Bool.{then_some}
+use Rattle.std.proofs.lemmas.List.{take_rest}
+use Rattle.std.proofs.lemmas.Iterator.{YieldsList-from_slice}
+use Rattle.std.proofs.lemmas.Iterator.Consumers.{count_from_yields_List}
+use Rattle.std.proofs.lemmas.Iterator.Search.{YieldsList-from_take_while, all_from_yields_List}
+use Rattle.std.proofs.lemmas.List.Folds.{length-prefix_len}
 use Rattle.encodings.specs.FullRegular.{full_regular_within}
-use Rattle.encodings.specs.Scans.{scan, scan_zero, scan_one, scan_late, scan_other}
 use Rattle.encodings.specs.Guard.{reading_no_size, reading_no_row}
-use Rattle.encodings.specs.Levels.{reading_scanned}
 use Rattle.encodings.specs.Rows.{row_refused}
+use Rattle.encodings.proofs.Fronts.{front, zeros, reading_front}
 use Rattle.encodings.proofs.full_regular.FullRegularMapping.reading.Goals as goal
-use Rattle.encodings.proofs.full_regular.FullRegularMapping.reading.Goals.{then-not-in_sizes-via-then-not-in_sizes, then-not-in_sizes-via-else-not-in_sizes+then-bits-size, in-0, in-1}
+use Rattle.encodings.proofs.full_regular.FullRegularMapping.reading.Goals.{then-not-in_sizes-via-then-not-in_sizes, then-not-in_sizes-via-else-not-in_sizes+then-bits-size}
 
 pub returns-then-not-in_sizes : goal.returns-then-not-in_sizes
 returns-then-not-in_sizes c =
@@ -17,27 +21,14 @@ returns-then-not-in_sizes c =
           sym (reading_no_row full_regular_within c.args.size c.args.bits.now (row_refused _ c.args.bits.now w.if-bits-size.true))
     ]
 
-pub loop-bit-preserved : goal.loop-bit-preserved
-loop-bit-preserved c =
-    elim c.match-bit.branch [
-      | in-0 w ↦ let v = w.value-is in
-          (omega arith, scan_zero _ _ _ c.loop-bit.falling c.loop-bit-test.true _ _ w.in-0.is w.falling-is v ∙ c.loop-bit.invariant.1)
-      | in-1 w ↦ let v = w.value-is in
-          (omega arith, scan_one _ _ _ _ c.loop-bit-test.true _ _ w.in-1.is w.if-falling.true w.falling-is v ∙ c.loop-bit.invariant.1)
-    ]
-
-pub returns-in_default : goal.returns-in_default
-returns-in_default c =
-    sym (reading_scanned _ c.args.bits.now (sym c.if-not-in_sizes.ensures) c.if-bits-size.false ∙
-    (sym c.loop-bit.invariant.1 ∙ scan_late _ _ _ _ c.loop-bit-test.true c.in-1.is c.if-falling.false))
-
-pub returns-in_default-2 : goal.returns-in_default-2
-returns-in_default-2 c =
-    let big : 1 < get_or c.args.bits.now c.loop-bit.bit-index 0 = omega arith in
-    sym (reading_scanned _ c.args.bits.now (sym c.if-not-in_sizes.ensures) c.if-bits-size.false ∙
-    (sym c.loop-bit.invariant.1 ∙ scan_other _ _ _ _ c.loop-bit-test.true big))
-
 pub returns : goal.returns
 returns c =
-    sym (reading_scanned _ c.args.bits.now (sym c.if-not-in_sizes.ensures) c.if-bits-size.false ∙ (sym c.loop-bit.invariant.1 ∙
-    at_drop_all (scan c.loop-bit.falling c.loop-bit.value) c.args.bits.now c.loop-bit.bit-index c.loop-bit-test.false))
+    let bits = c.args.bits.now in
+    let count : c.count-ones.result ≡ front bits =
+    count_from_yields_List c.take_while.result _ c.count-ones.ensures.ran (YieldsList-from_take_while _ (λ b. eqb b 1) (YieldsList-from_slice bits cc)
+    c.take_while.ensures.closure c.take_while.ensures.done (λ x b q k. search (rules, tests))) ∙ length-prefix_len (λ b. eqb b 1) bits in
+    let rest : c.all.result ≡ zeros (drop c.count-ones.result bits) =
+    all_from_yields_List (λ b. eqb b 0) _ _ c.all.result c.all.ensures.ran (YieldsList-from_slice (drop c.count-ones.result bits)
+    (c.iter-2.ensures.rest ∙ take_rest bits c.count-ones.result)) (λ x b q k. search (rules, tests)) in
+    c.then_some.ensures ∙ (ap₂ then_some (rest ∙ ap (λ n. zeros (drop n bits)) count) (ap (λ n. n + 1) count) ∙
+    sym (reading_front c.args.size bits (sym c.if-not-in_sizes.ensures) c.if-bits-size.false))

@@ -1,0 +1,27 @@
+-- FR's links written into memory.
+use Rattle.std.proofs.Common.{◌≡◌, ℕ, ◌+◌, ◌-◌, ◌<◌, ◌≤◌, List, [], ◌∷◌, map, length, take, drop, ℤ, sym, ap, ◌∙◌, subst, ap₂}
+use borrow.Rule.Slice.PartMut.{put_mid}
+use Rattle.formula.specs.Boolean.{words_of}
+use Rattle.formula.specs.Sheets.{numbers}
+use Rattle.formula.specs.Boolean.{Clause}
+use Rattle.mapping.specs.Memory.{flat, over}
+use Rattle.encodings.specs.FullRegular.{at_least, less_than, link, links}
+use Rattle.encodings.specs.Runs.{numbers_more, numbers_none}
+use Rattle.encodings.proofs.Writing.{Writing, ClauseWritten, writing_clause, writing_all}
+
+-- the links from j on
+abbrev pub links_left : ℕ → ℕ → List Clause
+links_left m j = map link (numbers j (m - j))
+
+module _ (before memory : List ℤ) (n m j : ℕ) where
+  pub links_more : (part : List ℤ) (k long : ℕ) (x y : ℤ) → j < m → long ≡ length memory → words_of (links m) ≤ length before →
+      x ≡ less_than (j + 1) → y ≡ at_least j → ClauseWritten (x ∷ y ∷ []) (take (long - n) (drop n memory)) k part →
+      Writing before memory n (links_left m j) (links m) → Writing before (put_mid n (long - n) memory part) (n + k) (links_left m (j + 1)) (links m)
+  links_more part k long x y h l r first second written w =
+      let left = links_left m (j + 1) in
+      let parts : links_left m j ≡ (x ∷ y ∷ []) ∷ left =
+      ap (map link) (numbers_more j m h) ∙ ap₂ (λ (a b : ℤ). (a ∷ b ∷ []) ∷ left) (sym first) (sym second) in
+      writing_clause before memory part n long k (x ∷ y ∷ []) left (links m) l r written (subst (λ cs. Writing before memory n cs (links m)) parts w)
+
+  pub links_all : m ≤ j → Writing before memory n (links_left m j) (links m) → (n ≡ words_of (links m)) × (memory ≡ over (flat (links m)) before)
+  links_all h w = writing_all before memory n (links m) (subst (λ js. Writing before memory n (map link js) (links m)) (numbers_none j m h) w)
