@@ -2,6 +2,5 @@
 #![tactic(auto)]
 
 pub mod standard;
-mod values;
 
 pub use standard::Standard;
