@@ -4,7 +4,7 @@ use Rattle.std.proofs.lemmas.List.{take_all}
 use Rattle.std.proofs.lemmas.Bool.{and_right}
 use Rattle.std.proofs.lemmas.Bool.Decides.{nat_tests}
 use Rattle.std.specs.Bool.{then_some}
-use Rattle.std.specs.List.{list_all, enumerate_from}
+use Rattle.std.specs.List.{list_all, enumerate_from, IsSplitAt}
 use Rattle.formula.specs.Boolean.{row}
 use Rattle.mapping.specs.Meanings.{Meaning, guarded, is_size}
 use Rattle.encodings.proofs.Known.{alike, agree}
@@ -52,17 +52,14 @@ module _ (M : Meaning) (T : Tieable M) (m : ℕ) (s : is_size m ≡ true) (bits 
   pub reading_short : length bits < m → None ≡ (guarded (tied M)).reading m bits
   reading_short h = sym (reading_no_row (tied M) m bits (row_refused (m + M.width m) bits (λ e. omega arith)))
 
-  module _ (h : m ≤ length bits) (o : Option ℕ) (inner : o ≡ M.reading m (take (length bits - m) (drop m bits))) (xs : List ℕ) (front : xs ≡ take m bits) where
-    rest : take (length bits - m) (drop m bits) ≡ drop m bits
-    rest = take_all (length bits - m) (drop m bits) (omega (arith, length-drop m bits))
+  module _ (own rest : List ℕ) (split : IsSplitAt bits m own rest) where
+    read : (guarded (tied M)).reading m bits ≡ confirmed (M.reading m rest) own
+    read = tied_read_cut M T m s bits split.0 ∙ ap₂ (λ ys xs. confirmed (M.reading m ys) xs) (sym split.2) (sym split.1)
 
-    read : (guarded (tied M)).reading m bits ≡ confirmed o xs
-    read = tied_read_cut M T m s bits h ∙ ap₂ confirmed (sym (inner ∙ ap (M.reading m) rest)) (sym front)
+    pub reading_none : None ≡ M.reading m rest → None ≡ (guarded (tied M)).reading m bits
+    reading_none e = sym (read ∙ ap (λ (p : Option ℕ). confirmed p own) (sym e))
 
-    pub reading_none : o ≡ None → None ≡ (guarded (tied M)).reading m bits
-    reading_none e = sym (read ∙ ap (λ (p : Option ℕ). confirmed p xs) e)
-
-    pub reading_some : (i : ℕ) (t : Bool) → o ≡ Some i → t ≡ only 0 i xs → then_some t i ≡ (guarded (tied M)).reading m bits
+    pub reading_some : (i : ℕ) (t : Bool) → Some i ≡ M.reading m rest → t ≡ only 0 i own → then_some t i ≡ (guarded (tied M)).reading m bits
     reading_some i t e alone-is =
-        alone_some t (row (length xs) xs && alone i xs) i (alone-is ∙ only_is i xs) ∙
-        sym (read ∙ ap (λ (p : Option ℕ). confirmed p xs) e)
+        alone_some t (row (length own) own && alone i own) i (alone-is ∙ only_is i own) ∙
+        sym (read ∙ ap (λ (p : Option ℕ). confirmed p own) (sym e))

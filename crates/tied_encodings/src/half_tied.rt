@@ -5,16 +5,13 @@ ghost use Rattle.encodings.proofs.TiedLaws.{half_tied_lawful};
 
 use super::inner::{Inner, InnerLists};
 use super::tied::Tied;
-use encodings::{FullRegular, write_form};
+use encodings::write_form;
 use formula::Sign;
 use mapping::{AXIOM_WORDS, FORM_LITERALS, Mapping, Shape};
 
 // A tied mapping, but for its minus forms.
 #[derive(Clone, Copy, Debug, PartialEq, Eq)]
 pub struct HalfTied<M>(pub Tied<M>);
-
-// HR: as R, with a minus by FR's bounds.
-pub type HalfRegular = HalfTied<FullRegular>;
 
 impl<M: Inner> Mapping for HalfTied<M> {
     ghost meaning = { guarded (half_tied M.meaning) };

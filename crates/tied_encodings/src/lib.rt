@@ -4,9 +4,11 @@
 mod half_tied;
 mod inner;
 mod moves;
+mod names;
 mod tied;
 mod ties;
 
-pub use half_tied::{HalfRegular, HalfTied};
+pub use half_tied::HalfTied;
 pub use inner::Inner;
-pub use tied::{Logarithmic, Regular, Tied};
+pub use names::{HalfRegular, Logarithmic, Regular};
+pub use tied::Tied;

@@ -12,9 +12,8 @@ ghost use Rattle.tied_encodings.specs.Marks.{only};
 use super::inner::{Inner, InnerLists};
 use super::moves::move_words;
 use super::ties::Tie;
-use encodings::{FullRegular, Listed};
+use encodings::Listed;
 use formula::Sign;
-use full_encodings::FullLogarithmic;
 use mapping::{AXIOM_WORDS, Choice, FORM_LITERALS, Mapping, Shape, Size, in_sizes};
 use standard_encoding::Standard;
 
@@ -22,60 +21,56 @@ use standard_encoding::Standard;
 #[derive(Clone, Copy, Debug, PartialEq, Eq)]
 pub struct Tied<M>(pub M);
 
-// L: tied to FL's digits.
-pub type Logarithmic = Tied<FullLogarithmic>;
-
-// R: tied to FR's bounds.
-pub type Regular = Tied<FullRegular>;
-
-// Writes the inner axioms, behind the Booleans of the values, and answers their words.
-fn write_moved<M: Inner>(inner: M, size: Size, memory: &mut [i32; AXIOM_WORDS]) -> usize
-    ensures count { result ≡ words_of (M.meaning.axioms size.count) }
-    ensures memory { memory.new ≡ over (flat (map (map (shifted size.count)) (M.meaning.axioms size.count))) memory.old }
-{
-    let count = inner.axioms(size.count, memory);
-    move_words(&mut memory[..count], size.count);
-    count
-}
-
-// Ties a value to its inner literals at the front of memory, and answers the words.
-fn tie_value<M: Inner>(inner: M, choice: Choice, memory: &mut [i32]) -> usize
-    requires { words_of (tie (value_literal choice.value) (inner_list M.meaning choice.size choice.value)) ≤ length memory.old }
-    ensures count { result ≡ words_of (tie (value_literal choice.value) (inner_list M.meaning choice.size choice.value)) }
-    ensures memory { memory.new ≡ over (flat (tie (value_literal choice.value) (inner_list M.meaning choice.size choice.value))) memory.old }
-{
-    let mut places = [0; FORM_LITERALS];
-    let count = InnerLists(inner).write_list(choice, &mut places);
-    let tie = Tie {
-        literal: choice.value as i32,
-        others: &places[..count],
-    };
-    tie.write(memory)
-}
-
-// Ties each value at the front of memory, from the first to the last, and answers the words.
-fn write_ties<M: Inner>(inner: M, size: Size, memory: &mut [i32]) -> usize
-    requires { words_of (ties M.meaning size.count) ≤ length memory.old }
-    ensures count { result ≡ words_of (ties M.meaning size.count) }
-    ensures memory { memory.new ≡ over (flat (ties M.meaning size.count)) memory.old }
-{
-    let mut count = 0;
-    for value in 1..=size.count {
-        let choice = Choice {
-            size: size.count,
-            value,
-        };
-        count += tie_value(inner, choice, &mut memory[count..]);
-    }
-    count
-}
-
 // Whether the bit at a place, counted from 1, is on and every other off.
 fn is_only(bits: &[u8], place: u32) -> bool
     requires { length bits.now ≤ 64 }
     ensures { result ≡ only 0 place bits.now }
 {
     bits.iter().enumerate().all(|(before, bit)| *bit == u8::from(before + 1 == place as usize))
+}
+
+impl<M: Inner> Tied<M> {
+    // Writes the inner axioms, behind the Booleans of the values, and answers their words.
+    fn write_moved(&self, size: Size, memory: &mut [i32; AXIOM_WORDS]) -> usize
+        ensures count { result ≡ words_of (M.meaning.axioms size.count) }
+        ensures memory { memory.new ≡ over (flat (map (map (shifted size.count)) (M.meaning.axioms size.count))) memory.old }
+    {
+        let count = self.0.axioms(size.count, memory);
+        move_words(&mut memory[..count], size.count);
+        count
+    }
+
+    // Ties a value to its inner literals at the front of memory, and answers the words.
+    fn tie_value(&self, choice: Choice, memory: &mut [i32]) -> usize
+        requires { words_of (tie (value_literal choice.value) (inner_list M.meaning choice.size choice.value)) ≤ length memory.old }
+        ensures count { result ≡ words_of (tie (value_literal choice.value) (inner_list M.meaning choice.size choice.value)) }
+        ensures memory { memory.new ≡ over (flat (tie (value_literal choice.value) (inner_list M.meaning choice.size choice.value))) memory.old }
+    {
+        let mut places = [0; FORM_LITERALS];
+        let count = InnerLists(self.0).write_list(choice, &mut places);
+        let tie = Tie {
+            literal: choice.value as i32,
+            others: &places[..count],
+        };
+        tie.write(memory)
+    }
+
+    // Ties each value at the front of memory, from the first to the last, and answers the words.
+    fn write_ties(&self, size: Size, memory: &mut [i32]) -> usize
+        requires { words_of (ties M.meaning size.count) ≤ length memory.old }
+        ensures count { result ≡ words_of (ties M.meaning size.count) }
+        ensures memory { memory.new ≡ over (flat (ties M.meaning size.count)) memory.old }
+    {
+        let mut count = 0;
+        for value in 1..=size.count {
+            let choice = Choice {
+                size: size.count,
+                value,
+            };
+            count += self.tie_value(choice, &mut memory[count..]);
+        }
+        count
+    }
 }
 
 impl<M: Inner> Mapping for Tied<M> {
@@ -97,8 +92,8 @@ impl<M: Inner> Mapping for Tied<M> {
         let Some(size) = Size::new(size) else {
             return 0;
         };
-        let count = write_moved(self.0, size, memory);
-        count + write_ties(self.0, size, &mut memory[count..])
+        let count = self.write_moved(size, memory);
+        count + self.write_ties(size, &mut memory[count..])
     }
 
     // A value's own Boolean.
@@ -108,11 +103,9 @@ impl<M: Inner> Mapping for Tied<M> {
 
     // The inner bits are read, and of the values' bits that value's has to be the only one that is on.
     fn reading(&self, size: u32, bits: &[u8]) -> Option<u32> {
-        let values = size as usize;
-        if !in_sizes(size) || bits.len() < values {
-            return None;
-        }
-        let value = self.0.reading(size, &bits[values..])?;
-        is_only(&bits[..values], value).then_some(value)
+        let size = Size::new(size)?.count;
+        let (own, rest) = bits.split_at_checked(size as usize)?;
+        let value = self.0.reading(size, rest)?;
+        is_only(own, value).then_some(value)
     }
 }

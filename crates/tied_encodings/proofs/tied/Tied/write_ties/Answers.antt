@@ -1,7 +1,7 @@
 -- The ties are written value by value.
 use Rattle.std.proofs.Common.{◌+◌, refl, arith, rules, length-take, length-drop}
 use Rattle.tied_encodings.proofs.ValueTies.{ties_room, ties_more, ties_all, ties_none}
-use Rattle.tied_encodings.proofs.tied.write_ties.Goals as goal
+use Rattle.tied_encodings.proofs.tied.Tied.write_ties.Goals as goal
 
 pub loop-value-init : goal.loop-value-init
 loop-value-init g c = ties_none g.M.Mapping.meaning c.args.size.count c.args.memory.now

@@ -2,7 +2,7 @@
 use Rattle.encodings.proofs.Writing.{Writing}
 use Rattle.encodings.specs.Ties.{ties}
 use Rattle.tied_encodings.proofs.ValueTies.{ties_left}
-use Rattle.tied_encodings.proofs.tied.write_ties.Given as goal
+use Rattle.tied_encodings.proofs.tied.Tied.write_ties.Given as goal
 
 abbrev pub invariant-loop-value : goal.invariant-loop-value
 invariant-loop-value g l =

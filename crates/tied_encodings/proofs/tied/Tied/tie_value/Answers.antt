@@ -13,7 +13,7 @@ use Rattle.encodings.specs.Values.{value_literal}
 use Rattle.tied_encodings.proofs.Fronts.{front_is}
 use Rattle.tied_encodings.proofs.TieWords.{tie_words}
 use Rattle.tied_encodings.specs.Narrow.{inner_narrow}
-use Rattle.tied_encodings.proofs.tied.tie_value.Goals as goal
+use Rattle.tied_encodings.proofs.tied.Tied.tie_value.Goals as goal
 
 -- the value's own literal
 own_word : (m i : ℕ) → is_size m ≡ true → is_value m i ≡ true → to_z w32 i ≡ pos i

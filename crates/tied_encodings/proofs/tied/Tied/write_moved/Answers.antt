@@ -8,7 +8,7 @@ use Rattle.mapping.specs.Memory.{flat, over, shifted_word}
 use Rattle.encodings.specs.Limits.{size_high}
 use Rattle.tied_encodings.proofs.Fronts.{front_is, front_mapped}
 use Rattle.tied_encodings.proofs.Small.{small_words}
-use Rattle.tied_encodings.proofs.tied.write_moved.Goals as goal
+use Rattle.tied_encodings.proofs.tied.Tied.write_moved.Goals as goal
 
 pub move_words-requires : goal.move_words-requires
 move_words-requires g c =
