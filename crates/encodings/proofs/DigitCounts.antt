@@ -117,5 +117,5 @@ module _ (m : ℕ) (s : is_size m ≡ true) where
       (cases_lt 1 (digits m))
 
   -- a digit weighs at most 32
-  pub weight_few : (k i w : ℕ) → k ≡ digits m → i < k → w ≡ 2 ^ i → w ≤ 32
-  weight_few k i w e h is = let few = digits_few in let grows = power_grows i 5 (omega arith) in omega arith
+  pub weight_few : (k i : ℕ) → k ≡ digits m → i < k → 2 ^ i ≤ 32
+  weight_few k i e h = let few = digits_few in power_grows i 5 (omega arith)

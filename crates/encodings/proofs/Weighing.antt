@@ -1,5 +1,5 @@
 -- One pass over a row of digits, which gives the number that they spell.
-use Rattle.std.proofs.Common.{◌≡◌, ℕ, zero, suc, ◌+◌, ◌*◌, ◌<◌, ◌≤◌, Bool, true, false, cond, eqb, List, [], ◌∷◌, length, get_or, drop, Some, None, Option, sym, refl, ap, ◌∙◌, ap₂, arith}
+use Rattle.std.proofs.Common.{◌≡◌, ℕ, zero, suc, ◌+◌, ◌*◌, ◌^◌, ◌<◌, ◌≤◌, Bool, true, false, cond, eqb, List, [], ◌∷◌, length, get_or, drop, Some, None, Option, sym, refl, ap, ◌∙◌, ap₂, arith}
 use Rattle.std.proofs.lemmas.List.{at_drop_more, at_drop_all}
 use Rattle.std.proofs.lemmas.Bool.{ne_eqb, cond-false}
 use Rattle.std.proofs.lemmas.Bool.Decides.{nat_tests}
@@ -8,6 +8,7 @@ use Rattle.mapping.specs.Meanings.{is_size}
 use Rattle.encodings.specs.Digits.{digits, spare}
 use Rattle.encodings.specs.FullLogarithmic.{full_logarithmic_within, full_logarithmic}
 use Rattle.encodings.specs.Guard.{reading_no_row}
+use Rattle.encodings.proofs.DigitCounts.{power_doubled}
 use Rattle.encodings.proofs.Patterns.{shown, reading_weighed}
 use Rattle.encodings.proofs.Spelling.{weighed}
 
@@ -25,31 +26,34 @@ weighing_is n w (suc zero ∷ bits) = weighing_is (n + w) (w * 2) bits ∙
     ap (λ k. cond (row (length bits) bits) (Some k) None) (omega arith)
 weighing_is n w (suc (suc b) ∷ bits) = grind (arith, nat_tests)
 
--- the digit at a place of the pass: a 0, a 1, or a bit that ends it; u is the number that the pass goes on with
-module _ (bits : List ℕ) (i n w : ℕ) (h : i < length bits) where
-  pub weighing_zero : (u : ℕ) → get_or bits i 0 ≡ 0 → u ≡ n → weighing u (w * 2) (drop (i + 1) bits) ≡ weighing n w (drop i bits)
-  weighing_zero u e g = ap (λ x. weighing x (w * 2) (drop (i + 1) bits)) g ∙
-      sym (at_drop_more (weighing n w) bits i 0 h ∙ ap (λ b. weighing n w (b ∷ drop (i + 1) bits)) e)
+-- the digit at a place of the pass, whose weight is a power of two: a 0, a 1, or a bit that ends it; u is the number that the pass goes on with
+module _ (bits : List ℕ) (i n : ℕ) (h : i < length bits) where
+  next : (u : ℕ) → weighing u (2 ^ (i + 1)) (drop (i + 1) bits) ≡ weighing u (2 ^ i * 2) (drop (i + 1) bits)
+  next u = ap (λ w. weighing u w (drop (i + 1) bits)) (sym (power_doubled i (2 ^ i) refl))
 
-  pub weighing_one : (u : ℕ) → get_or bits i 0 ≡ 1 → u ≡ n + w → weighing u (w * 2) (drop (i + 1) bits) ≡ weighing n w (drop i bits)
-  weighing_one u e g = ap (λ x. weighing x (w * 2) (drop (i + 1) bits)) g ∙
-      sym (at_drop_more (weighing n w) bits i 0 h ∙ ap (λ b. weighing n w (b ∷ drop (i + 1) bits)) e)
+  pub weighing_zero : (u : ℕ) → get_or bits i 0 ≡ 0 → u ≡ n → weighing u (2 ^ (i + 1)) (drop (i + 1) bits) ≡ weighing n (2 ^ i) (drop i bits)
+  weighing_zero u e g = next u ∙ (ap (λ x. weighing x (2 ^ i * 2) (drop (i + 1) bits)) g ∙
+      sym (at_drop_more (weighing n (2 ^ i)) bits i 0 h ∙ ap (λ b. weighing n (2 ^ i) (b ∷ drop (i + 1) bits)) e))
 
-  weighing_other : 1 < get_or bits i 0 → weighing n w (drop i bits) ≡ None
+  pub weighing_one : (u : ℕ) → get_or bits i 0 ≡ 1 → u ≡ n + 2 ^ i → weighing u (2 ^ (i + 1)) (drop (i + 1) bits) ≡ weighing n (2 ^ i) (drop i bits)
+  weighing_one u e g = next u ∙ (ap (λ x. weighing x (2 ^ i * 2) (drop (i + 1) bits)) g ∙
+      sym (at_drop_more (weighing n (2 ^ i)) bits i 0 h ∙ ap (λ b. weighing n (2 ^ i) (b ∷ drop (i + 1) bits)) e))
+
+  weighing_other : 1 < get_or bits i 0 → weighing n (2 ^ i) (drop i bits) ≡ None
   weighing_other big =
       let no_zero = ne_eqb (get_or bits i 0) 0 (omega arith) in
       let no_one = ne_eqb (get_or bits i 0) 1 (omega arith) in
-      at_drop_more (weighing n w) bits i 0 h ∙ (cond-false (eqb (get_or bits i 0) 0) _ _ no_zero ∙ cond-false (eqb (get_or bits i 0) 1) _ None no_one)
+      at_drop_more (weighing n (2 ^ i)) bits i 0 h ∙ (cond-false (eqb (get_or bits i 0) 0) _ _ no_zero ∙ cond-false (eqb (get_or bits i 0) 1) _ None no_one)
 
 -- the value that a number shows, if there is one
 abbrev shown_by : ℕ → Option ℕ → Option ℕ
 shown_by d (Some n) = Some (shown d n)
 shown_by d None = None
 
--- so a row of FL is read in one pass: n, w and i are the number, the weight and the place that the pass has come to
-module _ (m : ℕ) (bits : List ℕ) (k d n w i : ℕ) (s : is_size m ≡ true) (p : k ≡ digits m) (q : d ≡ spare m) (l : length bits ≡ k)
-    (so_far : weighing n w (drop i bits) ≡ weighing 0 1 bits) where
-  reading_weighing : full_logarithmic.reading m bits ≡ shown_by d (weighing n w (drop i bits))
+-- so a row of FL is read in one pass: n and i are the number and the place that the pass has come to
+module _ (m : ℕ) (bits : List ℕ) (k d n i : ℕ) (s : is_size m ≡ true) (p : k ≡ digits m) (q : d ≡ spare m) (l : length bits ≡ k)
+    (so_far : weighing n (2 ^ i) (drop i bits) ≡ weighing 0 1 bits) where
+  reading_weighing : full_logarithmic.reading m bits ≡ shown_by d (weighing n (2 ^ i) (drop i bits))
   reading_weighing =
       let number : weighed bits ≡ 0 + 1 * weighed bits = omega arith in
       at_row (row (digits m) bits) refl ∙
@@ -61,7 +65,7 @@ module _ (m : ℕ) (bits : List ℕ) (k d n w i : ℕ) (s : is_size m ≡ true) 
       at_row false r = reading_no_row full_logarithmic_within m bits r
 
   pub reading_ended : length bits ≤ i → full_logarithmic.reading m bits ≡ Some (shown d n)
-  reading_ended h = reading_weighing ∙ ap (shown_by d) (at_drop_all (weighing n w) bits i h)
+  reading_ended h = reading_weighing ∙ ap (shown_by d) (at_drop_all (weighing n (2 ^ i)) bits i h)
 
   pub reading_stopped : i < length bits → 1 < get_or bits i 0 → full_logarithmic.reading m bits ≡ None
-  reading_stopped h big = reading_weighing ∙ ap (shown_by d) (weighing_other bits i n w h big)
+  reading_stopped h big = reading_weighing ∙ ap (shown_by d) (weighing_other bits i n h big)

@@ -5,6 +5,7 @@ ghost use Rattle.encodings.specs.Levels.{full_regular_lawful, bounds_narrow};
 
 use super::clauses::write_clause;
 use super::listed::{Listed, write_form};
+use arrayvec::ArrayVec;
 use formula::Sign;
 use mapping::{AXIOM_WORDS, Choice, FORM_LITERALS, Mapping, Shape, Size, in_sizes};
 
@@ -33,19 +34,16 @@ impl Listed for FullRegular {
 
     ghost narrow = { bounds_narrow };
 
-    fn write_list(&self, choice: Choice, places: &mut [i32; FORM_LITERALS]) -> usize {
+    fn literals(&self, choice: Choice) -> ArrayVec<i32, FORM_LITERALS> {
         let Choice { size, value } = choice;
-        if value == 1 {
-            places[0] = less_than(2);
-            1
-        } else if value == size {
-            places[0] = at_least(size);
-            1
-        } else {
-            places[0] = at_least(value);
-            places[1] = less_than(value + 1);
-            2
+        let mut bounds = ArrayVec::new();
+        if value > 1 {
+            bounds.push(at_least(value));
         }
+        if value < size {
+            bounds.push(less_than(value + 1));
+        }
+        bounds
     }
 }
 

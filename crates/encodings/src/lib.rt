@@ -11,4 +11,4 @@ pub use clauses::write_clause;
 pub use digits::Digits;
 pub use full_regular::FullRegular;
 pub use listed::{Listed, write_form};
-pub use names::Name;
+pub use names::{Name, UnknownName};

@@ -7,6 +7,7 @@ ghost use Rattle.mapping.specs.Meanings.{is_size, is_value};
 ghost use Rattle.mapping.specs.Memory.{over};
 ghost use Rattle.encodings.specs.ListedForms.{form_by};
 
+use arrayvec::ArrayVec;
 use formula::Sign;
 use mapping::{Choice, FORM_LITERALS, Kind, Shape};
 
@@ -14,10 +15,8 @@ use mapping::{Choice, FORM_LITERALS, Kind, Shape};
 pub trait Listed {
     ghost list: { ℕ → ℕ → List ℤ };
 
-    // Writes the literals of a value, and answers their number.
-    fn write_list(&self, choice: Choice, places: &mut [i32; FORM_LITERALS]) -> usize
-        ensures count { result ≡ length (list choice.size choice.value) }
-        ensures places { places.new ≡ over (list choice.size choice.value) places.old };
+    fn literals(&self, choice: Choice) -> ArrayVec<i32, FORM_LITERALS>
+        ensures { result.items ≡ list choice.size choice.value };
 
     // They speak of the Booleans 1 to 127.
     ghost narrow: { (m i : ℕ) → is_size m ≡ true → is_value m i ≡ true → every (local 127) (list m i) ≡ true };
@@ -51,7 +50,9 @@ pub fn write_form<L: Listed>(
             count: 0,
         };
     };
-    let count = lists.write_list(choice, places);
+    let literals = lists.literals(choice);
+    let count = literals.len();
+    places[..count].copy_from_slice(literals.as_slice());
     match sign {
         Sign::Plus => {}
         Sign::Minus => turn(&mut places[..count]),

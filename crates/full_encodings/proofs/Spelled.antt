@@ -1,10 +1,8 @@
--- The digits of a number written into places, the highest first.
-use Rattle.std.proofs.Common.{◌≡◌, ℕ, zero, suc, ◌+◌, ◌-◌, ◌/◌, ◌%◌, ◌^◌, ◌<◌, ◌≤◌, List, [], ◌∷◌, ◌++◌, length, get_or, take, drop, set, ℤ, pos, sym, ap, ◌∙◌, ap₂, append_assoc, ⊎_elim, arith}
-use Rattle.std.proofs.Math.Seq.{set-append_seam}
+-- The digits of a number, one by one from the highest.
+use Rattle.std.proofs.Common.{◌≡◌, ℕ, zero, suc, ◌+◌, ◌-◌, ◌/◌, ◌%◌, ◌^◌, ◌<◌, ◌≤◌, List, [], ◌∷◌, ◌++◌, length, get_or, take, ℤ, pos, sym, ap, ◌∙◌, ap₂, ⊎_elim, arith}
 use Rattle.std.proofs.Math.Nat.{div-div-eq-div-mul}
 use Rattle.std.proofs.lemmas.Bool.{cases_lt}
-use Rattle.std.proofs.lemmas.List.{get_or_at, get_or_append_left, length-take, drop_more, take_more, take_all, drop_all, append-nil}
-use Rattle.mapping.specs.Memory.{over}
+use Rattle.std.proofs.lemmas.List.{get_or_at, get_or_append_left, take_more, take_all}
 use Rattle.encodings.specs.Digits.{digit_literal, spelled}
 use Rattle.encodings.proofs.DigitCounts.{power_more}
 use Rattle.encodings.proofs.Spelling.{spelled_length}
@@ -34,25 +32,16 @@ digit_at p (suc c) n i h = ⊎_elim (λ l. before l (digit_at (suc p) c (n / 2) 
         get_or_at (spelled (suc p) c (n / 2)) (digit_literal p (n % 2)) [] (pos 0) i (omega (arith, long)) ∙
         ap₂ digit_literal place (ap (λ q. q % 2) (whole ∙ ap (λ j. n / 2 ^ j) none))
 
--- one more of what is to be written there
-pub front_more : (xs ys ls : List ℤ) (i : ℕ) (x : ℤ) → i < length xs → i < length ys → x ≡ get_or xs i (pos 0) → ls ≡ take i xs ++ drop i ys →
-    set ls i x ≡ take (i + 1) xs ++ drop (i + 1) ys
-front_more xs ys ls i x h k e inv =
-    let long : length (take i xs) ≡ i = omega (arith, length-take i xs) in
-    let rest = drop (i + 1) ys in
-    ap (λ zs. set zs i x) (inv ∙ ap (λ zs. take i xs ++ zs) (drop_more ys i (pos 0) k)) ∙
-    (ap (λ j. set (take i xs ++ get_or ys i (pos 0) ∷ rest) j x) (sym long) ∙
-    (set-append_seam (take i xs) (get_or ys i (pos 0)) rest x ∙
-    (sym (append_assoc (take i xs) (x ∷ []) rest) ∙
-    ap (λ zs. zs ++ rest) (ap (λ y. take i xs ++ y ∷ []) e ∙ sym (take_more xs i (pos 0) h)))))
+-- with the digits above a place there, the digit at that place is next
+pub spelled_more : (p c n k : ℕ) (front all : List ℤ) (x : ℤ) → 0 < k → k ≤ c → x ≡ digit_literal (p + (k - 1)) (n / 2 ^ (k - 1) % 2) →
+    front ≡ take (c - k) (spelled p c n) → all ≡ front ++ x ∷ [] → all ≡ take (c - (k - 1)) (spelled p c n)
+spelled_more p c n k front all x some most e so_far pushed =
+    let long = spelled_length p c n in
+    let place : c - 1 - (c - k) ≡ k - 1 = omega arith in
+    let next : c - k + 1 ≡ c - (k - 1) = omega arith in
+    let digit : x ≡ get_or (spelled p c n) (c - k) (pos 0) = e ∙ sym (digit_at p c n (c - k) (omega arith) ∙ ap (λ j. digit_literal (p + j) (n / 2 ^ j % 2)) place) in
+    pushed ∙ (ap₂ (λ xs y. xs ++ y ∷ []) so_far digit ∙
+    (sym (take_more (spelled p c n) (c - k) (pos 0) (omega arith)) ∙ ap (λ j. take j (spelled p c n)) next))
 
-pub front_all : (xs ys : List ℤ) (i : ℕ) → length xs ≡ length ys → length xs ≤ i → take i xs ++ drop i ys ≡ xs
-front_all xs ys i e h = ap₂ ◌++◌ (take_all i xs h) (drop_all i ys (omega arith)) ∙ append-nil xs
-
--- digits that fill the first places are written over them
-pub front_written : (p n k : ℕ) (part before ls : List ℤ) → k ≤ length before → part ≡ spelled p (length (take k before)) n → spelled p k n ≡ ls →
-    record { count : k ≡ length ls; places : part ++ drop k before ≡ over ls before }
-front_written p n k part before ls h e is =
-    let long : length (take k before) ≡ k = omega (arith, length-take k before) in
-    let count : k ≡ length ls = sym (spelled_length p k n) ∙ ap length is in
-    record { count = count; places = ap₂ (λ xs j. xs ++ drop j before) (e ∙ (ap (λ j. spelled p j n) long ∙ is)) count }
+pub spelled_all : (p c n k : ℕ) (all : List ℤ) → k ≤ 0 → all ≡ take (c - k) (spelled p c n) → all ≡ spelled p c n
+spelled_all p c n k all none so_far = let long = spelled_length p c n in so_far ∙ take_all (c - k) (spelled p c n) (omega arith)

@@ -1,9 +1,10 @@
 // The mapping FL: the Booleans are binary digits that spell a value.
-ghost use Rattle.std.specs.Prelude.{◌≡◌, ◌≤◌, length};
+ghost use Rattle.std.specs.Prelude.{◌≡◌, ◌≤◌};
 ghost use Rattle.encodings.specs.Digits.{digit_literal, spelled};
 ghost use Rattle.encodings.specs.FullLogarithmic.{pattern, full_logarithmic};
 ghost use Rattle.encodings.proofs.Patterns.{full_logarithmic_lawful, pattern_narrow};
 
+use arrayvec::ArrayVec;
 use encodings::{Digits, Listed, write_form};
 use formula::Sign;
 use mapping::{AXIOM_WORDS, Choice, FORM_LITERALS, Mapping, Shape, in_sizes};
@@ -20,16 +21,16 @@ fn digit_literal(skipped: u32, bit: u32) -> i32
     if bit == 1 { digit } else { -digit }
 }
 
-// Writes the lowest digits of a number, one in each place and the highest first, as the Booleans behind those that are skipped.
-fn write_digits(skipped: u32, number: u32, places: &mut [i32])
-    requires { (skipped ≤ 1) × (length places.old ≤ 6) }
-    ensures { places.new ≡ spelled skipped (length places.old) number }
+// The lowest digits of a number, so many of them and the highest first, as the Booleans behind those that are skipped.
+fn spell(skipped: u32, count: u32, number: u32) -> ArrayVec<i32, FORM_LITERALS>
+    requires { (skipped ≤ 1) × (count ≤ 6) }
+    ensures { result.items ≡ spelled skipped count number }
 {
-    let count = places.len();
-    for (place, literal) in places.iter_mut().enumerate() {
-        let digit = (count - 1 - place) as u32;
-        *literal = digit_literal(skipped + digit, (number >> digit) % 2);
+    let mut digits = ArrayVec::new();
+    for place in (0..count).rev() {
+        digits.push(digit_literal(skipped + place, (number >> place) % 2));
     }
+    digits
 }
 
 // The pattern of a value: each of the first values leaves its lowest digit out, while there are spare patterns.
@@ -38,16 +39,13 @@ impl Listed for FullLogarithmic {
 
     ghost narrow = { pattern_narrow };
 
-    fn write_list(&self, choice: Choice, places: &mut [i32; FORM_LITERALS]) -> usize {
+    fn literals(&self, choice: Choice) -> ArrayVec<i32, FORM_LITERALS> {
         let Choice { size, value } = choice;
         let Digits { count, spare } = Digits::of_size(size);
-        let count = count as usize;
         if value <= spare {
-            write_digits(1, value - 1, &mut places[..count - 1]);
-            count - 1
+            spell(1, count - 1, value - 1)
         } else {
-            write_digits(0, value - 1 + spare, &mut places[..count]);
-            count
+            spell(0, count, value - 1 + spare)
         }
     }
 }
@@ -75,22 +73,17 @@ impl Mapping for FullLogarithmic {
 
     // Weighs the digits. Two patterns that differ in the lowest digit stand for one value, while there are spare ones.
     fn reading(&self, size: u32, bits: &[u8]) -> Option<u32> {
-        if !in_sizes(size) {
-            return None;
-        }
         let Digits { count, spare } = Digits::of_size(size);
-        if bits.len() != count as usize {
+        if !in_sizes(size) || bits.len() != count as usize {
             return None;
         }
         let mut number = 0;
-        let mut weight = 1;
-        for bit in bits {
+        for (digit, bit) in bits.iter().enumerate() {
             match *bit {
                 0 => {}
-                1 => number += weight,
+                1 => number += 1 << digit,
                 _ => return None,
             }
-            weight *= 2;
         }
         if number / 2 < spare {
             Some(number / 2 + 1)

@@ -38,9 +38,9 @@ fn read_name(fields: &[u8]) -> Line
     let Some(field) = find_field(fields) else {
         return Line::Unreadable;
     };
-    match Name::of_bytes(field) {
-        Some(name) => Line::Mapping(name),
-        None => Line::Unreadable,
+    match Name::try_from(field) {
+        Ok(name) => Line::Mapping(name),
+        Err(_) => Line::Unreadable,
     }
 }
 

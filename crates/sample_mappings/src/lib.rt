@@ -9,6 +9,7 @@ ghost use Rattle.mapping.specs.Meanings.{Lawful};
 ghost use Rattle.mapping.specs.Memory.{flat, over};
 ghost use Rattle.sample_mappings.specs.Contradicting.{contradicting};
 
+use arrayvec::ArrayVec;
 use encodings::{Listed, write_clause, write_form};
 use formula::Sign;
 use mapping::{AXIOM_WORDS, Choice, FORM_LITERALS, Mapping, Shape, in_sizes};
@@ -49,9 +50,10 @@ impl Listed for Contradicting {
 
     ghost narrow = { λ m i s v. refl };
 
-    fn write_list(&self, choice: Choice, places: &mut [i32; FORM_LITERALS]) -> usize {
-        places[0] = 1;
-        1
+    fn literals(&self, choice: Choice) -> ArrayVec<i32, FORM_LITERALS> {
+        let mut literals = ArrayVec::new();
+        literals.push(1);
+        literals
     }
 }
 
