@@ -17,7 +17,6 @@ pub mod RowParts
 pub mod RunSums
 pub mod Spelling
 pub mod StandardLaws
-pub mod StandardWriting
 pub mod TiedLaws
 pub mod TiedReadings
 pub mod Tying

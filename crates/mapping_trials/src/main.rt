@@ -23,7 +23,7 @@ use standard_encoding::Standard;
 use std::io;
 use std::io::Write;
 use subject::Subject;
-use tied_encodings::{HalfRegular, Logarithmic, Regular};
+use tied_encodings::{HalfTied, Tied};
 
 // Reports a group of a mapping.
 fn close(tally: &mut Tally, encoding: Encoding, group: &str) {
@@ -72,10 +72,10 @@ fn main(rt: HostRuntime) -> io::Result<()> {
     let mut tally = Tally::new(rt.alloc());
     try_mapping(&mut tally, Encoding::S, Standard);
     try_mapping(&mut tally, Encoding::FL, FullLogarithmic);
-    try_mapping(&mut tally, Encoding::L, Logarithmic);
+    try_mapping(&mut tally, Encoding::L, Tied(FullLogarithmic));
     try_mapping(&mut tally, Encoding::FR, FullRegular);
-    try_mapping(&mut tally, Encoding::R, Regular);
-    try_mapping(&mut tally, Encoding::HR, HalfRegular);
+    try_mapping(&mut tally, Encoding::R, Tied(FullRegular));
+    try_mapping(&mut tally, Encoding::HR, HalfTied(Tied(FullRegular)));
     tally.finish();
     rt.stdout().write_all(tally.report.as_slice())
 }

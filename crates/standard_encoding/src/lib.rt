@@ -1,7 +1,6 @@
 // The mapping that has a Boolean for each value and no other: S.
 #![tactic(auto)]
 
-pub mod standard;
-mod values;
+mod standard;
 
 pub use standard::Standard;

@@ -1,3 +1,5 @@
-pub mod Moves
+pub mod Fronts
 pub mod OneBit
-pub mod Ties
+pub mod Small
+pub mod TieWords
+pub mod ValueTies

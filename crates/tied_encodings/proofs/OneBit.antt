@@ -1,8 +1,10 @@
 -- A pass over bits of which one alone is to be on.
-use Rattle.std.proofs.Common.{◌≡◌, ℕ, zero, suc, ◌+◌, ◌-◌, ◌<◌, ◌≤◌, Bool, true, false, cond, ◌&&◌, eqb, leb, List, [], ◌∷◌, length, get_or, take, drop, Some, None, Option, sym, refl, ap, ◌∙◌, ap₂, arith, length-drop}
-use Rattle.std.proofs.lemmas.List.{at_drop_more, take_all}
-use Rattle.std.proofs.lemmas.Bool.{and_left, and_right, cond-true, cond-false, eq-eqb, ne_eqb}
+use Rattle.std.proofs.Common.{◌≡◌, ℕ, zero, suc, ◌+◌, ◌-◌, ◌<◌, ◌≤◌, Bool, true, false, cond, ◌&&◌, eqb, leb, List, [], ◌∷◌, length, take, drop, Some, None, Option, sym, refl, ap, ◌∙◌, ap₂, arith, length-drop}
+use Rattle.std.proofs.lemmas.List.{take_all}
+use Rattle.std.proofs.lemmas.Bool.{and_right}
 use Rattle.std.proofs.lemmas.Bool.Decides.{nat_tests}
+use Rattle.std.specs.Bool.{then_some}
+use Rattle.std.specs.List.{list_all, enumerate_from, IsSplitAt}
 use Rattle.formula.specs.Boolean.{row}
 use Rattle.mapping.specs.Meanings.{Meaning, guarded, is_size}
 use Rattle.encodings.proofs.Known.{alike, agree}
@@ -10,18 +12,13 @@ use Rattle.encodings.specs.Guard.{reading_no_row}
 use Rattle.encodings.specs.Rows.{row_refused}
 use Rattle.encodings.proofs.TiedReadings.{agree_alike, alone, confirmed, tied_read_cut}
 use Rattle.encodings.specs.Ties.{tied, Tieable}
+use Rattle.standard_encoding.proofs.FirstOn.{alone_some}
 use Rattle.tied_encodings.specs.Marks.{only}
 
-module _ (bits : List ℕ) (i before place : ℕ) (h : i < length bits) where
-  next : only before place (drop i bits) ≡ (eqb (get_or bits i 0) (cond (eqb (before + 1) place) 1 0) && only (before + 1) place (drop (i + 1) bits))
-  next = at_drop_more (only before place) bits i 0 h
-
-  -- the bit is as it should be: the others decide
-  pub only_step : get_or bits i 0 ≡ cond (eqb (before + 1) place) 1 0 → only (before + 1) place (drop (i + 1) bits) ≡ only before place (drop i bits)
-  only_step e = sym (next ∙ ap (λ t. t && only (before + 1) place (drop (i + 1) bits)) (eq-eqb (get_or bits i 0) (cond (eqb (before + 1) place) 1 0) e))
-
-  pub only_stop : (get_or bits i 0 ≡ cond (eqb (before + 1) place) 1 0 → ⊥) → only before place (drop i bits) ≡ false
-  only_stop ne = next ∙ and_left (eqb (get_or bits i 0) (cond (eqb (before + 1) place) 1 0)) _ (ne_eqb (get_or bits i 0) (cond (eqb (before + 1) place) 1 0) ne)
+-- bit by bit, each beside the number of those before it
+pub only_all : (before place : ℕ) (bits : List ℕ) → list_all (λ p. eqb p.1 (cond (eqb (p.0 + 1) place) 1 0)) (enumerate_from before bits) ≡ only before place bits
+only_all before place [] = refl
+only_all before place (b ∷ bits) = ap (λ t. eqb b (cond (eqb (before + 1) place) 1 0) && t) (only_all (before + 1) place bits)
 
 -- these are the rows in which that bit is on and no other
 pub only_from : (before place : ℕ) (bits : List ℕ) → only before place bits ≡ (row (length bits) bits && agree (λ k. eqb (suc (before + k)) place) bits)
@@ -55,18 +52,14 @@ module _ (M : Meaning) (T : Tieable M) (m : ℕ) (s : is_size m ≡ true) (bits 
   pub reading_short : length bits < m → None ≡ (guarded (tied M)).reading m bits
   reading_short h = sym (reading_no_row (tied M) m bits (row_refused (m + M.width m) bits (λ e. omega arith)))
 
-  module _ (h : m ≤ length bits) (o : Option ℕ) (inner : o ≡ M.reading m (take (length bits - m) (drop m bits))) (xs : List ℕ) (front : xs ≡ take m bits) where
-    rest : take (length bits - m) (drop m bits) ≡ drop m bits
-    rest = take_all (length bits - m) (drop m bits) (omega (arith, length-drop m bits))
+  module _ (own rest : List ℕ) (split : IsSplitAt bits m own rest) where
+    read : (guarded (tied M)).reading m bits ≡ confirmed (M.reading m rest) own
+    read = tied_read_cut M T m s bits split.0 ∙ ap₂ (λ ys xs. confirmed (M.reading m ys) xs) (sym split.2) (sym split.1)
 
-    read : (guarded (tied M)).reading m bits ≡ confirmed o xs
-    read = tied_read_cut M T m s bits h ∙ ap₂ confirmed (sym (inner ∙ ap (M.reading m) rest)) (sym front)
+    pub reading_none : None ≡ M.reading m rest → None ≡ (guarded (tied M)).reading m bits
+    reading_none e = sym (read ∙ ap (λ (p : Option ℕ). confirmed p own) (sym e))
 
-    pub reading_none : o ≡ None → None ≡ (guarded (tied M)).reading m bits
-    reading_none e = sym (read ∙ ap (λ (p : Option ℕ). confirmed p xs) e)
-
-    pub reading_alone : (i : ℕ) → o ≡ Some i → true ≡ only 0 i xs → Some i ≡ (guarded (tied M)).reading m bits
-    reading_alone i e yes-alone = sym (read ∙ (ap (λ (p : Option ℕ). confirmed p xs) e ∙ cond-true (row (length xs) xs && alone i xs) (Some i) None (sym (only_is i xs) ∙ sym yes-alone)))
-
-    pub reading_others : (i : ℕ) → o ≡ Some i → false ≡ only 0 i xs → None ≡ (guarded (tied M)).reading m bits
-    reading_others i e others = sym (read ∙ (ap (λ (p : Option ℕ). confirmed p xs) e ∙ cond-false (row (length xs) xs && alone i xs) (Some i) None (sym (only_is i xs) ∙ sym others)))
+    pub reading_some : (i : ℕ) (t : Bool) → Some i ≡ M.reading m rest → t ≡ only 0 i own → then_some t i ≡ (guarded (tied M)).reading m bits
+    reading_some i t e alone-is =
+        alone_some t (row (length own) own && alone i own) i (alone-is ∙ only_is i own) ∙
+        sym (read ∙ ap (λ (p : Option ℕ). confirmed p own) (sym e))

@@ -1,29 +1,28 @@
--- The pass over the bits gives the reading, and ends where the reading is none.
-use Rattle.std.proofs.Common.{◌<◌, get_or, sym, refl, ◌∙◌, arith}
-use Rattle.std.proofs.lemmas.List.{at_drop_all}
-use Rattle.encodings.proofs.HotScans.{search_one, search_zero, search_first, search_second, search_other}
+-- The first byte that is no 0 decides the reading.
+use Rattle.std.proofs.Common.{◌≡◌, ◌+◌, sym, refl, ◌∙◌, ap, ◌&&◌, eqb, get_or, drop}
+use Rattle.std.specs.List.{list_all}
+use Rattle.std.proofs.lemmas.List.{take_rest}
+use Rattle.std.proofs.lemmas.Bool.{and_left, eq-eqb, ne_eqb}
 use Rattle.encodings.proofs.StandardLaws.{reading_searched}
+use Rattle.standard_encoding.proofs.FirstOn.{off, found_some, found_none, alone_some}
 use Rattle.standard_encoding.proofs.standard.find_one.Goals as goal
-use Rattle.standard_encoding.proofs.standard.find_one.Goals.{in-0, in-1}
+use Rattle.standard_encoding.proofs.standard.find_one.Goals.{then-bits-place-eq1, else-bits-place-eq1}
 
-pub loop-bit-preserved : goal.loop-bit-preserved
-loop-bit-preserved c =
-    elim c.match-bit.branch [
-      | in-0 w ↦ (omega arith, search_zero _ _ _ _ c.loop-bit-test.true _ _ w.in-0.is w.found-is refl ∙ c.loop-bit.invariant.1)
-      | in-1 w ↦ (omega arith, search_first _ _ _ _ c.loop-bit-test.true _ _ w.in-1.is w.if-is_none.ensures w.found-is refl ∙ c.loop-bit.invariant.1)
-    ]
-
-pub returns-in_default : goal.returns-in_default
-returns-in_default c =
-    sym (reading_searched _ c.args.bits.now c.requires refl ∙
-    (sym c.loop-bit.invariant.1 ∙ search_second _ _ _ _ c.loop-bit-test.true c.in-1.is c.if-is_none.ensures))
-
-pub returns-in_default-2 : goal.returns-in_default-2
-returns-in_default-2 c =
-    let big : 1 < get_or c.args.bits.now c.loop-bit.bit-index 0 = omega arith in
-    sym (reading_searched _ c.args.bits.now c.requires refl ∙ (sym c.loop-bit.invariant.1 ∙ search_other _ _ _ _ c.loop-bit-test.true big))
+pub returns-in_err-place : goal.returns-in_err-place
+returns-in_err-place c =
+    c.from_residual.ensures ∙ sym (reading_searched _ c.args.bits.now c.requires refl ∙ found_none c.args.bits.now (sym c.in_err-place.ensures))
 
 pub returns : goal.returns
 returns c =
-    sym (reading_searched _ c.args.bits.now c.requires refl ∙ (sym c.loop-bit.invariant.1 ∙
-    at_drop_all (search_one c.loop-bit.found c.loop-bit.place) c.args.bits.now c.loop-bit.bit-index c.loop-bit-test.false))
+    let bits = c.args.bits.now in
+    let k = c.in_ok-place.place in
+    let alone : c.if-bits-place-eq1.alone ≡ (eqb (get_or bits k 0) 1 && list_all off (drop (k + 1) bits)) =
+    elim c.if-bits-place-eq1.branch [
+      | then-bits-place-eq1 w ↦ w.alone-is ∙ (w.all_off-alone.ensures ∙
+          (ap (list_all off) (take_rest bits (k + 1)) ∙ ap (λ t. t && list_all off (drop (k + 1) bits)) (sym (eq-eqb (get_or bits k 0) 1 w.if-bits-place-eq1.true))))
+      | else-bits-place-eq1 w ↦ w.alone-is ∙
+          (ne_eqb (get_or bits k 0) 1 w.if-bits-place-eq1.false ∙ sym (and_left (eqb (get_or bits k 0) 1) _ (ne_eqb (get_or bits k 0) 1 w.if-bits-place-eq1.false)))
+    ] in
+    c.then_some.ensures ∙
+    (alone_some _ _ (k + 1) alone ∙
+    sym (reading_searched _ bits c.requires refl ∙ found_some bits k (sym c.in_ok-place.ensures)))

@@ -1,14 +1,11 @@
 -- The values are written one by one, and a 0 behind them.
-use Rattle.std.proofs.Common.{refl, arith}
-use Rattle.std.proofs.lemmas.Int.{ints}
-use Rattle.encodings.proofs.StandardWriting.{values_none, values_more, values_all}
+use Rattle.std.proofs.Common.{◌≡◌, length, arith, length-take}
+use Rattle.encodings.specs.Limits.{size_high}
+use Rattle.standard_encoding.proofs.SomeValue.{some_value_written}
 use Rattle.standard_encoding.proofs.standard.write_some_value.Goals as goal
 
-pub loop-place-init : goal.loop-place-init
-loop-place-init c = values_none c.args.memory.now c.args.size
-
-pub loop-place-preserved : goal.loop-place-preserved
-loop-place-preserved c = values_more _ _ c.args.size c.loop-place.place _ c.loop-place-test.true (omega arith) (omega (arith, ints)) c.loop-place.invariant
-
-pub returns : goal.returns
-returns c = record { count = refl; memory = values_all _ _ c.args.size c.loop-place.place (omega arith) (omega arith) c.loop-place.invariant }
+pub returns-clause-memory : goal.returns-clause-memory
+returns-clause-memory c =
+    let few = size_high c.args.size.count c.args.size.in_range in
+    let long : length c.loop-place.word-items ≡ c.args.size.count = omega (arith, length-take c.args.size.count c.args.memory.now, c.loop-place.auto.word-items) in
+    some_value_written c.args.size.count _ c.args.memory.now long (omega arith) (λ k h. c.loop-place.invariant k (omega (arith, c.loop-place.auto.word-items)))

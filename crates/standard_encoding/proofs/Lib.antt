@@ -1,0 +1,4 @@
+pub mod Behind
+pub mod ExclusionWriting
+pub mod FirstOn
+pub mod SomeValue

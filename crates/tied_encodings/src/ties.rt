@@ -1,0 +1,56 @@
+// What ties a literal to others, as words in memory.
+ghost use Rattle.std.specs.Prelude.{◌≡◌, ◌+◌, ◌*◌, ◌≤◌, true, [], ◌∷◌, map, length};
+ghost use Rattle.formula.specs.Boolean.{local, opposite};
+ghost use Rattle.formula.specs.Tests.{every};
+ghost use Rattle.mapping.specs.Memory.{ended, flat, over};
+ghost use Rattle.encodings.specs.Ties.{tie};
+
+use encodings::write_clause;
+
+// A literal and those that it is tied to, all of Booleans from 1 to 127.
+#[derive(Clone, Copy)]
+pub(crate) struct Tie<'a> {
+    pub(crate) literal: i32,
+    pub(crate) others: &'a [i32],
+    pub(crate) ghost narrow: { every (local 127) (literal ∷ others.now) ≡ true },
+}
+
+impl Tie<'_> {
+    // Writes the literal's clause with each of the others, which it brings, at the front of memory, and answers the words.
+    fn write_implications(&self, memory: &mut [i32]) -> usize
+        requires { 3 * length self.now.others.now ≤ length memory.old }
+        ensures count { result ≡ 3 * length self.now.others.now }
+        ensures memory { memory.new ≡ over (flat (map (λ y. opposite self.now.literal ∷ y ∷ []) self.now.others.now)) memory.old }
+    {
+        let mut count = 0;
+        for other in self.others {
+            count += write_clause(&[-self.literal, *other], &mut memory[count..]);
+        }
+        count
+    }
+
+    // Writes the clause of the literal and the opposites of the others, which bring it, at the front of memory, and answers the words.
+    fn write_converse(&self, memory: &mut [i32]) -> usize
+        requires { length self.now.others.now + 2 ≤ length memory.old }
+        ensures count { result ≡ length self.now.others.now + 2 }
+        ensures memory { memory.new ≡ over (ended (self.now.literal ∷ map opposite self.now.others.now)) memory.old }
+    {
+        let end = self.others.len() + 1;
+        memory[0] = self.literal;
+        for (place, other) in self.others.iter().enumerate() {
+            memory[place + 1] = -*other;
+        }
+        memory[end] = 0;
+        end + 1
+    }
+
+    // Writes both at the front of memory, and answers the words.
+    pub(crate) fn write(&self, memory: &mut [i32]) -> usize
+        requires { 4 * length self.now.others.now + 2 ≤ length memory.old }
+        ensures count { result ≡ 4 * length self.now.others.now + 2 }
+        ensures memory { memory.new ≡ over (flat (tie self.now.literal self.now.others.now)) memory.old }
+    {
+        let count = self.write_implications(memory);
+        count + self.write_converse(&mut memory[count..])
+    }
+}
