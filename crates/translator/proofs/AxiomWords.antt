@@ -7,48 +7,21 @@ use Rattle.formula.specs.Boolean.{Clause, number, local, words, words_of}
 use Rattle.formula.specs.Tests.{every}
 use Rattle.mapping.specs.Forms.{shifted}
 use Rattle.mapping.specs.Meanings.{Meaning, Lawful}
-use Rattle.mapping.specs.Memory.{ended, flat, over}
+use Rattle.mapping.specs.Memory.{ended, flat, over, shifted_word}
+use Rattle.mapping.proofs.Moving.{shifted_literal, length_flat, no_zero, moved_flat, words_moved}
 use Rattle.mapping.proofs.Ranges.{axioms_own}
 use Rattle.store.specs.Stores.{Terms, Bounded, Contents, fits, words_left}
 use Rattle.store.specs.declared.StoreFault.{StoreFault}
 use Rattle.translator.specs.Filing.{room_answer, axioms_answer, with_all, after_all}
 use Rattle.translator.specs.Places.{placed_axioms}
 use Rattle.translator.specs.Placed.{Takes}
-use Rattle.translator.specs.Words.{ended_in, shifted_word, Storable, axioms_left}
+use Rattle.translator.specs.Words.{ended_in, Storable, axioms_left}
 use Rattle.translator.proofs.Fitting.{clause_fits, shifted_number}
 use Rattle.formula.proofs.Tests.{every_append, every_weaker, every_map}
 use Rattle.translator.proofs.Rooms.{room_ok}
-use Rattle.translator.proofs.Worded.{shifted_literal, ended_in_more}
-
-length_ended : (c : Clause) → length (ended c) ≡ words c
-length_ended c = length-append c (pos 0 ∷ [])
-
-pub length_flat : (cs : List Clause) → length (flat cs) ≡ words_of cs
-length_flat [] = refl
-length_flat (c ∷ cs) = length-append (ended c) (flat cs) ∙ (λ i. length_ended c i + length_flat cs i)
-
-no_zero : (w : ℕ) (l : ℤ) → local w l ≡ true → l ≡ pos 0 → ⊥
-no_zero w l own e = omega (arith, leb-true 1 (number l) (and_parts (leb 1 (number l)) (leb (number l) w) own).0, ap number e)
+use Rattle.translator.proofs.Worded.{ended_in_more}
 
 module _ (w start : ℕ) where
-  -- moved words are the words of the moved clauses
-  moved_clause : (c : Clause) → every (local w) c ≡ true → map (shifted_word start) c ≡ map (shifted start) c
-  moved_clause [] own = refl
-  moved_clause (l ∷ c) own =
-      let both = and_parts (local w l) (every (local w) c) own in
-      λ i. shifted_literal start l (no_zero w l both.0) i ∷ moved_clause c both.1 i
-
-  pub moved_flat : (cs : List Clause) → every (every (local w)) cs ≡ true → map (shifted_word start) (flat cs) ≡ flat (map (map (shifted start)) cs)
-  moved_flat [] own = refl
-  moved_flat (c ∷ cs) own =
-      let both = and_parts (every (local w) c) (every (every (local w)) cs) own in
-      map-append (shifted_word start) (ended c) (flat cs)
-      ∙ (λ i. (map-append (shifted_word start) c (pos 0 ∷ []) ∙ ap (λ xs. xs ++ pos 0 ∷ []) (moved_clause c both.0)) i ++ moved_flat cs both.1 i)
-
-  pub words_moved : (cs : List Clause) → words_of (map (map (shifted start)) cs) ≡ words_of cs
-  words_moved [] = refl
-  words_moved (c ∷ cs) = λ i. (length-map c (shifted start) i + 1) + words_moved cs i
-
   small_words : start + w < 2 ^ 31 → (cs : List Clause) → every (every (local w)) cs ≡ true → every (λ x. ltb (number (shifted_word start x)) (2 ^ 31)) (flat cs) ≡ true
   small_words within [] own = refl
   small_words within (c ∷ cs) own =
@@ -114,7 +87,7 @@ module _ {Cell : Type 0} (T : Terms Cell) (K : Contents Cell) (M : Meaning) (law
       small = small_words (M.width m) start (omega (arith, bounded.largest, within)) (M.axioms m) own;
       takes = subst (Takes T K) (sym (placed_ended within)) (record {
         fit = placed_fit within;
-        room = omega (arith, room.1, counted, words_moved (M.width m) start (M.axioms m));
+        room = omega (arith, room.1, counted, words_moved start (M.axioms m));
       });
     })
 
@@ -128,7 +101,7 @@ module _ {Cell : Type 0} (T : Terms Cell) (K : Contents Cell) (M : Meaning) (law
         let placed : K' ≡ with_all T K (placed_axioms M start m) = after ∙ ap (λ (xs : List ℤ). with_all T K (ended_in [] (map (shifted_word start) xs))) part_is ∙ ap (with_all T K) (placed_ended within) in
         let front : ws ≡ flat (placed_axioms M start m) = moved ∙ ap (map (shifted_word start)) part_is ∙ moved_flat (M.width m) start (M.axioms m) own in
         let same-long : length (flat (M.axioms m)) ≡ length (flat (placed_axioms M start m)) =
-        length_flat (M.axioms m) ∙ sym (words_moved (M.width m) start (M.axioms m)) ∙ sym (length_flat (placed_axioms M start m)) in
+        length_flat (M.axioms m) ∙ sym (words_moved start (M.axioms m)) ∙ sym (length_flat (placed_axioms M start m)) in
         let rest : drop (count - 0) written ≡ drop (length (flat (placed_axioms M start m))) before =
         ap (drop (count - 0)) wrote ∙ drop_at (flat (M.axioms m)) _ (count - 0) long ∙ ap (λ (n : ℕ). drop n before) same-long in (
           is ∙ sym ok ∙ answer_is,

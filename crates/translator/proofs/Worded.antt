@@ -5,13 +5,15 @@ use Rattle.std.proofs.lemmas.Slice.{between_is}
 use Rattle.formula.specs.Boolean.{Clause, number}
 use Rattle.formula.specs.Tests.{every}
 use Rattle.mapping.specs.Forms.{shifted}
+use Rattle.mapping.specs.Memory.{shifted_word}
+use Rattle.mapping.proofs.Moving.{shifted_literal}
 use Rattle.std.proofs.lemmas.Bool.{ltb-true}
 use Rattle.formula.proofs.Tests.{every_at}
 use Rattle.store.specs.Stores.{Terms, Contents, put_answer, after_put, appended}
 use Rattle.store.specs.declared.StoreFault.{StoreFault}
 use Rattle.translator.specs.Filing.{with_all}
 use Rattle.translator.specs.Placed.{Takes}
-use Rattle.translator.specs.Words.{ended_in, shifted_word}
+use Rattle.translator.specs.Words.{ended_in}
 use Rattle.translator.proofs.Filled.{with_none, with_one, taken_first, taken_rest}
 
 -- a word that is no end goes on with the clause
@@ -19,12 +21,6 @@ pub ended_in_more : (c : Clause) (w : ℤ) (ws : List ℤ) → (w ≡ pos 0 → 
 ended_in_more c (pos zero) ws h = absurd (h refl)
 ended_in_more c (pos (suc n)) ws h = refl
 ended_in_more c (negsuc n) ws h = refl
-
--- a literal moves as a literal
-pub shifted_literal : (n : ℕ) (w : ℤ) → (w ≡ pos 0 → ⊥) → shifted_word n w ≡ shifted n w
-shifted_literal n (pos zero) h = absurd (h refl)
-shifted_literal n (pos (suc a)) h = refl
-shifted_literal n (negsuc a) h = refl
 
 -- moving makes no end
 moved_no_end : (n : ℕ) (w : ℤ) → (w ≡ pos 0 → ⊥) → shifted_word n w ≡ pos 0 → ⊥

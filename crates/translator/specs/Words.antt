@@ -1,8 +1,9 @@
 -- Clauses that lie in memory as words: the literals of each, and a 0 for its end. Assumes nothing.
-use Rattle.std.specs.Prelude.{◌≡◌, ℕ, zero, suc, ◌+◌, ◌^◌, true, List, [], ◌∷◌, ◌++◌, map, ℤ, pos, negsuc, Ok, Err, Result, nat_lt}
+use Rattle.std.specs.Prelude.{◌≡◌, ℕ, zero, suc, ◌^◌, true, List, [], ◌∷◌, ◌++◌, map, ℤ, pos, negsuc, Ok, Err, Result, nat_lt}
 use Rattle.formula.specs.Boolean.{Clause, number}
 use Rattle.formula.specs.Tests.{every}
 use Rattle.mapping.specs.Meanings.{Meaning}
+use Rattle.mapping.specs.Memory.{shifted_word}
 use Rattle.store.specs.Stores.{Terms, Contents}
 use Rattle.store.specs.declared.StoreFault.{StoreFault}
 use Rattle.translator.specs.Placed.{Takes}
@@ -14,12 +15,6 @@ ended_in c [] = []
 ended_in c (pos zero ∷ ws) = c ∷ ended_in [] ws
 ended_in c (pos (suc n) ∷ ws) = ended_in (c ++ pos (suc n) ∷ []) ws
 ended_in c (negsuc n ∷ ws) = ended_in (c ++ negsuc n ∷ []) ws
-
--- a word moved n Booleans further; an end stays an end
-abbrev pub shifted_word : ℕ → ℤ → ℤ
-shifted_word n (pos zero) = pos zero
-shifted_word n (pos (suc a)) = pos (suc a + n)
-shifted_word n (negsuc a) = negsuc (a + n)
 
 -- what is asked before words are stored: their numbers are those of an i32, and the store can take their clauses
 pub record Storable {Cell : Type 0} (T : Terms Cell) (K : Contents Cell) (start : ℕ) (ws : List ℤ) : Type 0 where

@@ -1,9 +1,9 @@
 // The axioms of a variable, stored.
 ghost use Rattle.std.specs.Prelude.{◌≡◌, [], map, Ok};
-ghost use Rattle.mapping.specs.Memory.{flat, over};
+ghost use Rattle.mapping.specs.Memory.{flat, over, shifted_word};
 ghost use Rattle.translator.specs.Filing.{axioms_answer, with_all, after_all};
 ghost use Rattle.translator.specs.Places.{placed_axioms};
-ghost use Rattle.translator.specs.Words.{ended_in, shifted_word, Storable, axioms_left};
+ghost use Rattle.translator.specs.Words.{ended_in, Storable, axioms_left};
 
 use crate::placed::shift;
 use crate::room::check_room;

@@ -2,9 +2,10 @@ use Rattle.std.proofs.Common.{◌≡◌, ℕ, ◌+◌, ◌<◌, List, ◌++◌, 
 use borrow.Rule.Slice.PartMut.{put_mid}
 use Rattle.std.proofs.lemmas.Int.{to_z-of_z}
 use Rattle.mapping.specs.Forms.{shifted}
-use Rattle.translator.specs.Words.{shifted_word}
+use Rattle.mapping.specs.Memory.{shifted_word}
+use Rattle.mapping.proofs.Moving.{shifted_literal}
 use Rattle.translator.proofs.Rooms.{never_ok}
-use Rattle.translator.proofs.Worded.{Going, part, put_ok, going_end, going_on, going_all, moved_small, shifted_literal}
+use Rattle.translator.proofs.Worded.{Going, part, put_ok, going_end, going_on, going_all, moved_small}
 use Rattle.translator.proofs.axioms.put_words.Goals as goal
 use Rattle.translator.proofs.axioms.put_words.Goals.{then-words-i-eq0+in_ok-put, else-words-i-eq0}
 
