@@ -1,9 +1,9 @@
 -- The axioms of a variable as words in memory. Assumes nothing.
-use Rattle.std.proofs.Common.{◌≡◌, ℕ, ◌+◌, ◌-◌, ◌^◌, ◌<◌, ◌≤◌, Bool, true, ltb, leb, List, [], ◌∷◌, ◌++◌, map, length, take, drop, ℤ, pos, Ok, Result, sym, refl, ap, ◌∙◌, subst, append_assoc, append-nil, arith, length-append}
+use Rattle.std.proofs.Common.{◌≡◌, ℕ, ◌+◌, ◌-◌, ◌^◌, ◌<◌, ◌≤◌, Bool, true, ltb, leb, List, [], ◌∷◌, ◌++◌, map, length, take, drop, ℤ, pos, Ok, Result, sym, refl, ap, ◌∙◌, subst, append_assoc, append-nil, arith}
 use native.Mathlib.Nat.{sub-zero}
-use Rattle.std.proofs.lemmas.List.{map-append, length-map, take_at, drop_at}
+use Rattle.std.proofs.lemmas.List.{take_at, drop_at}
 use Rattle.std.proofs.lemmas.Bool.{and_parts, leb-true, lt-ltb}
-use Rattle.formula.specs.Boolean.{Clause, number, local, words, words_of}
+use Rattle.formula.specs.Boolean.{Clause, number, local, words_of}
 use Rattle.formula.specs.Tests.{every}
 use Rattle.mapping.specs.Forms.{shifted}
 use Rattle.mapping.specs.Meanings.{Meaning, Lawful}

@@ -1,5 +1,5 @@
 -- Where the last Boolean of a clause's variables fits a store, so does every literal that is stored for it. Assumes nothing.
-use Rattle.std.proofs.Common.{◌≡◌, ℕ, ◌+◌, ◌-◌, ◌^◌, ◌≤◌, Bool, true, ltb, leb, List, [], ◌∷◌, ◌++◌, map, take, ℤ, pos, negsuc, sym, refl, ap, ◌∙◌, arith}
+use Rattle.std.proofs.Common.{◌≡◌, ℕ, ◌+◌, ◌-◌, ◌^◌, ◌≤◌, Bool, true, ltb, leb, List, [], ◌∷◌, ◌++◌, map, ℤ, pos, negsuc, sym, refl, ap, ◌∙◌, arith}
 use Rattle.std.specs.List.{flat_map, AllByRecursion}
 use Rattle.std.proofs.lemmas.Bool.{and_parts, and_from, le-leb, leb-true, lt-ltb}
 use Rattle.formula.specs.Boolean.{Clause, number, local}
@@ -16,7 +16,7 @@ use Rattle.store.specs.Stores.{fits}
 use Rattle.translator.specs.declared.places.Place.{Place}
 use Rattle.translator.specs.declared.placed.PlacedForm.{PlacedForm}
 use Rattle.translator.specs.Places.{place_at, form_at, reach}
-use Rattle.translator.specs.Placed.{of_kind, form_in, own_literals, Few, Small}
+use Rattle.translator.specs.Placed.{of_kind, form_in, own_literals, Small}
 
 -- a variable's own literal, behind the Booleans before it
 pub shifted_number : (n : ℕ) (l : ℤ) → number (shifted n l) ≡ number l + n
@@ -81,20 +81,19 @@ module _ (L : ℕ) where
   members_held : (p : PlacedForm) → members (form_in p) ≡ own_literals p
   members_held p = by_kind p.kind
     where
-      by_kind : (k : Kind) → members (shifted_form p.start (of_kind k (take p.count p.literals))) ≡ own_literals p
+      by_kind : (k : Kind) → members (shifted_form p.start (of_kind k p.literals.items)) ≡ own_literals p
       by_kind AllOf = refl
       by_kind AnyOf = refl
 
-  pub all_small : L ≤ 2 ^ 31 - 1 → (ps : List PlacedForm) → AllByRecursion Few ps → every (form_fits L) (map form_in ps) ≡ true → AllByRecursion Small ps
-  all_small bound [] few h = tt
-  all_small bound (p ∷ ps) few h =
+  pub all_small : L ≤ 2 ^ 31 - 1 → (ps : List PlacedForm) → every (form_fits L) (map form_in ps) ≡ true → AllByRecursion Small ps
+  all_small bound [] h = tt
+  all_small bound (p ∷ ps) h =
       let both = and_parts (form_fits L (form_in p)) (every (form_fits L) (map form_in ps)) h in (
         record {
-          few = few.0;
           numbers =
               every_weaker (fits L) (λ l. ltb (number l) (2 ^ 31))
               (λ l k. lt-ltb _ _ (omega (arith, leb-true (number l) L (and_parts (leb 1 (number l)) (leb (number l) L) k).1)))
               (own_literals p) (ap (every (fits L)) (sym (members_held p)) ∙ both.0);
         },
-        all_small bound ps few.1 both.1,
+        all_small bound ps both.1,
       )
