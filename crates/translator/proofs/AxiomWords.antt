@@ -16,18 +16,15 @@ use Rattle.translator.specs.Places.{placed_axioms}
 use Rattle.translator.specs.Placed.{Takes}
 use Rattle.translator.specs.Words.{ended_in, axioms_left}
 use Rattle.translator.proofs.Fitting.{clause_fits, shifted_number}
-use Rattle.formula.proofs.Tests.{every_append, every_weaker, every_map}
+use Rattle.formula.proofs.Tests.{every_append, every_joined, every_weaker, every_map}
 use Rattle.translator.proofs.Rooms.{room_ok}
 use Rattle.translator.proofs.Worded.{ended_in_more}
 
 module _ (w start : ℕ) where
   small_words : start + w < 2 ^ 31 → (cs : List Clause) → every (every (local w)) cs ≡ true → every (λ x. ltb (number (shifted_word start x)) (2 ^ 31)) (flat cs) ≡ true
-  small_words within [] own = refl
-  small_words within (c ∷ cs) own =
-      let both = and_parts (every (local w) c) (every (every (local w)) cs) own in
-      every_append small (ended c) (flat cs)
-      (every_append small c (pos 0 ∷ []) (every_weaker (local w) small one c both.0) refl)
-      (small_words within cs both.1)
+  small_words within cs own =
+      every_joined small ended cs
+      ∙ every_weaker (every (local w)) (λ c. every small (ended c)) (λ c h. every_append small c (pos 0 ∷ []) (every_weaker (local w) small one c h) refl) cs own
     where
       small : ℤ → Bool
       small x = ltb (number (shifted_word start x)) (2 ^ 31)

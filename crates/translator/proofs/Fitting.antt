@@ -4,7 +4,7 @@ use Rattle.std.specs.List.{flat_map, AllByRecursion}
 use Rattle.std.proofs.lemmas.Bool.{and_parts, and_from, le-leb, leb-true, lt-ltb}
 use Rattle.formula.specs.Boolean.{Clause, number, local}
 use Rattle.formula.specs.Tests.{every}
-use Rattle.formula.proofs.Tests.{every_append, every_weaker, every_map}
+use Rattle.formula.proofs.Tests.{every_append, every_joined, every_weaker, every_map}
 use Rattle.formula.specs.declared.signed.Literal.{Literal}
 use Rattle.mapping.specs.Forms.{Form, all_of, any_of, members, shifted, shifted_form, choices, distributed}
 use Rattle.mapping.specs.Meanings.{Meaning, Lawful}
@@ -55,17 +55,14 @@ module _ (M : Meaning) (lawful : Lawful M) (L : ℕ) (ps : List Place) where
 
 module _ (L : ℕ) where
   fits_fronted : (c : List ℤ) → every (fits L) c ≡ true → (ds : List Clause) → every (every (fits L)) ds ≡ true → every (every (fits L)) (fronted ds c) ≡ true
-  fits_fronted c h [] k = refl
-  fits_fronted c h (d ∷ ds) k =
-      let both = and_parts (every (fits L) d) (every (every (fits L)) ds) k in
-      and_from (every (fits L) (c ++ d)) (every (every (fits L)) (fronted ds c)) (every_append (fits L) c d h both.0) (fits_fronted c h ds both.1)
+  fits_fronted c h ds k =
+      every_map (every (fits L)) (λ d. c ++ d) ds (every_weaker (every (fits L)) (λ d. every (fits L) (c ++ d)) (λ d. every_append (fits L) c d h) ds k)
 
   fits_joined : (cs : List (List ℤ)) → every (every (fits L)) cs ≡ true → (ds : List Clause) → every (every (fits L)) ds ≡ true →
       every (every (fits L)) (flat_map (fronted ds) cs) ≡ true
-  fits_joined [] h ds k = refl
-  fits_joined (c ∷ cs) h ds k =
-      let both = and_parts (every (fits L) c) (every (every (fits L)) cs) h in
-      every_append (every (fits L)) (fronted ds c) (flat_map (fronted ds) cs) (fits_fronted c both.0 ds k) (fits_joined cs both.1 ds k)
+  fits_joined cs h ds k =
+      every_joined (every (fits L)) (fronted ds) cs
+      ∙ every_weaker (every (fits L)) (λ c. every (every (fits L)) (fronted ds c)) (λ c own. fits_fronted c own ds k) cs h
 
   fits_choices : (f : Form) → form_fits L f ≡ true → every (every (fits L)) (choices f) ≡ true
   fits_choices (all_of ls) h = every_map (every (fits L)) (λ l. l ∷ []) ls (every_weaker (fits L) (λ l. every (fits L) (l ∷ [])) (λ l k. and_from (fits L l) true k refl) ls h)

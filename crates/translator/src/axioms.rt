@@ -21,6 +21,7 @@ fn move_word(word: i32, start: u32) -> i32
     if word == 0 { 0 } else { shift(word, start) }
 }
 
+// The same for each of these words.
 fn move_words(words: &mut [i32], start: u32)
     requires { every (λ w. nat_lt (number (shifted_word start w)) (2 ^ 31)) words.old ≡ true }
     ensures { words.new ≡ map (shifted_word start) words.old }

@@ -5,13 +5,14 @@ ghost use Rattle.mapping.specs.Forms.{distributed};
 ghost use Rattle.translator.specs.Filing.{with_all};
 ghost use Rattle.translator.specs.Placed.{form_in, Ready, product_behind};
 
+use crate::layout::CLAUSE_FORMS;
 use crate::placed::{PlacedForm, shift};
 use arrayvec::ArrayVec;
-use mapping::Kind;
+use mapping::{FORM_LITERALS, Kind};
 use store::{Store, StoreFault};
 
-// The literals of a product's clause lie in this many places: at most 8 of each of at most 16 forms.
-const CLAUSE_LITERALS: usize = 128;
+// A clause of a product has at most so many literals: those of each form.
+const CLAUSE_LITERALS: usize = CLAUSE_FORMS * FORM_LITERALS;
 
 // The words of the clauses of a product of at most 16 forms: as many clauses as the splits multiply to, each with its literals and one for its end.
 pub(crate) fn count_words(forms: &[PlacedForm]) -> u64

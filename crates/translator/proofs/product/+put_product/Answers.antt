@@ -2,6 +2,7 @@ use Rattle.std.proofs.Common.{◌≡◌, ℕ, ◌-◌, ◌^◌, ◌<◌, ◌++�
 use Rattle.std.proofs.lemmas.Int.{to_z-of_z}
 use Rattle.std.proofs.lemmas.List.{nil_from_length}
 use Rattle.std.proofs.lemmas.Slice.{first_rest}
+use Rattle.arrayvec.proofs.ArrayVecLemmas.{items-with_items}
 use Rattle.formula.specs.Boolean.{number}
 use Rattle.mapping.specs.Forms.{shifted}
 use Rattle.store.specs.Stores.{put_answer, after_put}
@@ -23,21 +24,15 @@ pushed : (p : PlacedForm) (front' front xs : List ℤ) (i : ℕ) (l : ℤ) → S
 pushed p front' front xs i l fits moved_fits is shift push =
     push ∙ ap (λ z. front ++ z ∷ []) (to_z-of_z w32 l moved_fits ∙ shift ∙ ap (shifted p.start) (read xs p.literals.items i fits is))
 
-pub returns-in_default-clause-answer : goal.returns-in_default-clause-answer
-returns-in_default-clause-answer g t c =
+pub returns-in_default : goal.returns-in_default
+returns-in_default g t c =
     let T = g.S.Store.terms c.args.store.now in
     let K = g.S.Store.contents c.args.store.now in
     let said = c.put.ensures.answer ∙ ap (put_answer T K) c.as_mut_slice.ensures.value in
     let after = c.put.ensures.after ∙ ap (after_put c.put.result T K) c.as_mut_slice.ensures.value in
-    (leaf T K _ _ c.args.forms.now _ (nil_from_length _ (omega arith)) c.requires said after).0
-
-pub returns-in_default-clause-after : goal.returns-in_default-clause-after
-returns-in_default-clause-after g t c =
-    let T = g.S.Store.terms c.args.store.now in
-    let K = g.S.Store.contents c.args.store.now in
-    let said = c.put.ensures.answer ∙ ap (put_answer T K) c.as_mut_slice.ensures.value in
-    let after = c.put.ensures.after ∙ ap (after_put c.put.result T K) c.as_mut_slice.ensures.value in
-    (leaf T K _ _ c.args.forms.now _ (nil_from_length _ (omega arith)) c.requires said after).1
+    let done = leaf T K _ _ c.args.forms.now _ (nil_from_length _ (omega arith)) c.requires said after in
+    let lent = c.put.ensures.lent ∙ c.as_mut_slice.ensures.value in
+    record { answer = done.0; after = done.1; same = c.put.ensures.same; kept = items-with_items c.args.front.now c.put.new.clause (ap length lent) ∙ lent }
 
 pub shift-requires : goal.shift-requires
 shift-requires g t c =
