@@ -1,61 +1,30 @@
 -- The axioms of a variable as words in memory. Assumes nothing.
-use Rattle.std.proofs.Common.{◌≡◌, ℕ, ◌+◌, ◌-◌, ◌^◌, ◌<◌, ◌≤◌, Bool, true, ltb, leb, List, [], ◌∷◌, ◌++◌, map, length, take, drop, ℤ, pos, Ok, Result, sym, refl, ap, ◌∙◌, subst, append_assoc, append-nil, arith, length-append}
-use native.Mathlib.Nat.{sub-zero}
-use Rattle.std.proofs.lemmas.List.{map-append, length-map, take_at, drop_at}
+use Rattle.std.proofs.Common.{◌≡◌, ℕ, ◌+◌, ◌^◌, ◌<◌, ◌≤◌, Bool, true, ltb, leb, List, [], ◌∷◌, ◌++◌, map, length, take, drop, ℤ, pos, Ok, Result, sym, refl, ap, ◌∙◌, subst, append_assoc, append-nil, arith}
+use Rattle.std.proofs.lemmas.List.{take_at, drop_at}
 use Rattle.std.proofs.lemmas.Bool.{and_parts, leb-true, lt-ltb}
-use Rattle.formula.specs.Boolean.{Clause, number, local, words, words_of}
+use Rattle.formula.specs.Boolean.{Clause, number, local, words_of}
 use Rattle.formula.specs.Tests.{every}
 use Rattle.mapping.specs.Forms.{shifted}
 use Rattle.mapping.specs.Meanings.{Meaning, Lawful}
-use Rattle.mapping.specs.Memory.{ended, flat, over}
+use Rattle.mapping.specs.Memory.{ended, flat, over, shifted_word}
+use Rattle.mapping.proofs.Moving.{shifted_literal, length_flat, no_zero, moved_flat, words_moved}
 use Rattle.mapping.proofs.Ranges.{axioms_own}
 use Rattle.store.specs.Stores.{Terms, Bounded, Contents, fits, words_left}
 use Rattle.store.specs.declared.StoreFault.{StoreFault}
 use Rattle.translator.specs.Filing.{room_answer, axioms_answer, with_all, after_all}
 use Rattle.translator.specs.Places.{placed_axioms}
 use Rattle.translator.specs.Placed.{Takes}
-use Rattle.translator.specs.Words.{ended_in, shifted_word, Storable, axioms_left}
+use Rattle.translator.specs.Words.{ended_in, axioms_left}
 use Rattle.translator.proofs.Fitting.{clause_fits, shifted_number}
-use Rattle.formula.proofs.Tests.{every_append, every_weaker, every_map}
+use Rattle.formula.proofs.Tests.{every_append, every_joined, every_weaker, every_map}
 use Rattle.translator.proofs.Rooms.{room_ok}
-use Rattle.translator.proofs.Worded.{shifted_literal, ended_in_more}
-
-length_ended : (c : Clause) → length (ended c) ≡ words c
-length_ended c = length-append c (pos 0 ∷ [])
-
-pub length_flat : (cs : List Clause) → length (flat cs) ≡ words_of cs
-length_flat [] = refl
-length_flat (c ∷ cs) = length-append (ended c) (flat cs) ∙ (λ i. length_ended c i + length_flat cs i)
-
-no_zero : (w : ℕ) (l : ℤ) → local w l ≡ true → l ≡ pos 0 → ⊥
-no_zero w l own e = omega (arith, leb-true 1 (number l) (and_parts (leb 1 (number l)) (leb (number l) w) own).0, ap number e)
+use Rattle.translator.proofs.Worded.{ended_in_more}
 
 module _ (w start : ℕ) where
-  -- moved words are the words of the moved clauses
-  moved_clause : (c : Clause) → every (local w) c ≡ true → map (shifted_word start) c ≡ map (shifted start) c
-  moved_clause [] own = refl
-  moved_clause (l ∷ c) own =
-      let both = and_parts (local w l) (every (local w) c) own in
-      λ i. shifted_literal start l (no_zero w l both.0) i ∷ moved_clause c both.1 i
-
-  pub moved_flat : (cs : List Clause) → every (every (local w)) cs ≡ true → map (shifted_word start) (flat cs) ≡ flat (map (map (shifted start)) cs)
-  moved_flat [] own = refl
-  moved_flat (c ∷ cs) own =
-      let both = and_parts (every (local w) c) (every (every (local w)) cs) own in
-      map-append (shifted_word start) (ended c) (flat cs)
-      ∙ (λ i. (map-append (shifted_word start) c (pos 0 ∷ []) ∙ ap (λ xs. xs ++ pos 0 ∷ []) (moved_clause c both.0)) i ++ moved_flat cs both.1 i)
-
-  pub words_moved : (cs : List Clause) → words_of (map (map (shifted start)) cs) ≡ words_of cs
-  words_moved [] = refl
-  words_moved (c ∷ cs) = λ i. (length-map c (shifted start) i + 1) + words_moved cs i
-
   small_words : start + w < 2 ^ 31 → (cs : List Clause) → every (every (local w)) cs ≡ true → every (λ x. ltb (number (shifted_word start x)) (2 ^ 31)) (flat cs) ≡ true
-  small_words within [] own = refl
-  small_words within (c ∷ cs) own =
-      let both = and_parts (every (local w) c) (every (every (local w)) cs) own in
-      every_append small (ended c) (flat cs)
-      (every_append small c (pos 0 ∷ []) (every_weaker (local w) small one c both.0) refl)
-      (small_words within cs both.1)
+  small_words within cs own =
+      every_joined small ended cs
+      ∙ every_weaker (every (local w)) (λ c. every small (ended c)) (λ c h. every_append small c (pos 0 ∷ []) (every_weaker (local w) small one c h) refl) cs own
     where
       small : ℤ → Bool
       small x = ltb (number (shifted_word start x)) (2 ^ 31)
@@ -89,10 +58,6 @@ module _ {Cell : Type 0} (T : Terms Cell) (K : Contents Cell) (M : Meaning) (law
       every_map (every (fits T.largest)) (map (shifted start)) (M.axioms m)
       (every_weaker (every (local (M.width m))) (λ c. every (fits T.largest) (map (shifted start) c)) (clause_fits T.largest start (M.width m) within) (M.axioms m) own)
 
-  -- the clauses that end in the moved words are the placed axioms
-  placed_ended : start + M.width m ≤ T.largest → ended_in [] (map (shifted_word start) (flat (M.axioms m))) ≡ placed_axioms M start m
-  placed_ended within = ap (ended_in []) (moved_flat (M.width m) start (M.axioms m) own) ∙ ended_flat T.largest (placed_axioms M start m) (placed_fit within)
-
   -- what the mapping has written is asked for and stored
   module _ (before written : List ℤ) (count h : ℕ) (answer : Result (Unit {0}) StoreFault) (u : Unit {0})
       (wrote : written ≡ over (flat (M.axioms m)) before) (counted : count ≡ words_of (M.axioms m)) (highest : h ≡ start + M.width m)
@@ -103,35 +68,41 @@ module _ {Cell : Type 0} (T : Terms Cell) (K : Contents Cell) (M : Meaning) (law
     within : start + M.width m ≤ T.largest
     within = omega (arith, room.0, highest)
 
-    long : length (flat (M.axioms m)) ≡ count - 0
-    long = length_flat (M.axioms m) ∙ sym counted ∙ sym (sub-zero count)
+    long : length (flat (M.axioms m)) ≡ count
+    long = length_flat (M.axioms m) ∙ sym counted
 
-    part_is : take (count - 0) written ≡ flat (M.axioms m)
-    part_is = ap (take (count - 0)) wrote ∙ take_at (flat (M.axioms m)) _ (count - 0) long
+    part_is : take count written ≡ flat (M.axioms m)
+    part_is = ap (take count) wrote ∙ take_at (flat (M.axioms m)) _ count long
 
-    pub storable : Storable T K start (take (count - 0) written)
-    storable = subst (Storable T K start) (sym part_is) (record {
-      small = small_words (M.width m) start (omega (arith, bounded.largest, within)) (M.axioms m) own;
-      takes = subst (Takes T K) (sym (placed_ended within)) (record {
+    pub words_small : every (λ x. ltb (number (shifted_word start x)) (2 ^ 31)) (take count written) ≡ true
+    words_small =
+        subst (λ (xs : List ℤ). every (λ x. ltb (number (shifted_word start x)) (2 ^ 31)) xs ≡ true) (sym part_is)
+        (small_words (M.width m) start (omega (arith, bounded.largest, within)) (M.axioms m) own)
+
+    module _ (moved : List ℤ) (is : moved ≡ map (shifted_word start) (take count written)) where
+      front : moved ≡ flat (placed_axioms M start m)
+      front = is ∙ ap (map (shifted_word start)) part_is ∙ moved_flat (M.width m) start (M.axioms m) own
+
+      ended_are : ended_in [] moved ≡ placed_axioms M start m
+      ended_are = ap (ended_in []) front ∙ ended_flat T.largest (placed_axioms M start m) (placed_fit within)
+
+      pub words_takes : Takes T K (ended_in [] moved)
+      words_takes = subst (Takes T K) (sym ended_are) (record {
         fit = placed_fit within;
-        room = omega (arith, room.1, counted, words_moved (M.width m) start (M.axioms m));
-      });
-    })
+        room = omega (arith, room.1, counted, words_moved start (M.axioms m));
+      })
 
-    answer_is : answer ≡ axioms_answer M T K start m
-    answer_is = said ∙ (λ i. room_answer T K (highest i) (counted i))
+      answer_is : answer ≡ axioms_answer M T K start m
+      answer_is = said ∙ (λ i. room_answer T K (highest i) (counted i))
 
-    pub stored : (r : Result (Unit {0}) StoreFault) (K' : Contents Cell) (ws : List ℤ) → r ≡ Ok tt →
-        K' ≡ with_all T K (ended_in [] (map (shifted_word start) (take (count - 0) written))) → ws ≡ map (shifted_word start) (take (count - 0) written) →
-        (r ≡ axioms_answer M T K start m) × (K' ≡ after_all r T K (placed_axioms M start m)) × (ws ++ drop (count - 0) written ≡ over (flat (axioms_left r M start m)) before)
-    stored r K' ws is after moved =
-        let placed : K' ≡ with_all T K (placed_axioms M start m) = after ∙ ap (λ (xs : List ℤ). with_all T K (ended_in [] (map (shifted_word start) xs))) part_is ∙ ap (with_all T K) (placed_ended within) in
-        let front : ws ≡ flat (placed_axioms M start m) = moved ∙ ap (map (shifted_word start)) part_is ∙ moved_flat (M.width m) start (M.axioms m) own in
-        let same-long : length (flat (M.axioms m)) ≡ length (flat (placed_axioms M start m)) =
-        length_flat (M.axioms m) ∙ sym (words_moved (M.width m) start (M.axioms m)) ∙ sym (length_flat (placed_axioms M start m)) in
-        let rest : drop (count - 0) written ≡ drop (length (flat (placed_axioms M start m))) before =
-        ap (drop (count - 0)) wrote ∙ drop_at (flat (M.axioms m)) _ (count - 0) long ∙ ap (λ (n : ℕ). drop n before) same-long in (
-          is ∙ sym ok ∙ answer_is,
-          placed ∙ sym (ap (λ (x : Result (Unit {0}) StoreFault). after_all x T K (placed_axioms M start m)) is),
-          (λ i. front i ++ rest i) ∙ sym (ap (λ (x : Result (Unit {0}) StoreFault). over (flat (axioms_left x M start m)) before) is),
-        )
+      pub stored : (r : Result (Unit {0}) StoreFault) (K' : Contents Cell) (ws : List ℤ) → r ≡ Ok tt → K' ≡ with_all T K (ended_in [] moved) → ws ≡ moved →
+          (r ≡ axioms_answer M T K start m) × (K' ≡ after_all r T K (placed_axioms M start m)) × (ws ++ drop count written ≡ over (flat (axioms_left r M start m)) before)
+      stored r K' ws is_ok after kept =
+          let same-long : length (flat (M.axioms m)) ≡ length (flat (placed_axioms M start m)) =
+          length_flat (M.axioms m) ∙ sym (words_moved start (M.axioms m)) ∙ sym (length_flat (placed_axioms M start m)) in
+          let rest : drop count written ≡ drop (length (flat (placed_axioms M start m))) before =
+          ap (drop count) wrote ∙ drop_at (flat (M.axioms m)) _ count long ∙ ap (λ (n : ℕ). drop n before) same-long in (
+            is_ok ∙ sym ok ∙ answer_is,
+            after ∙ ap (with_all T K) ended_are ∙ sym (ap (λ (x : Result (Unit {0}) StoreFault). after_all x T K (placed_axioms M start m)) is_ok),
+            (λ i. (kept ∙ front) i ++ rest i) ∙ sym (ap (λ (x : Result (Unit {0}) StoreFault). over (flat (axioms_left x M start m)) before) is_ok),
+          )

@@ -1,10 +1,10 @@
 -- Where the last Boolean of a clause's variables fits a store, so does every literal that is stored for it. Assumes nothing.
-use Rattle.std.proofs.Common.{◌≡◌, ℕ, ◌+◌, ◌-◌, ◌^◌, ◌≤◌, Bool, true, ltb, leb, List, [], ◌∷◌, ◌++◌, map, take, ℤ, pos, negsuc, sym, refl, ap, ◌∙◌, arith}
+use Rattle.std.proofs.Common.{◌≡◌, ℕ, ◌+◌, ◌-◌, ◌^◌, ◌≤◌, Bool, true, ltb, leb, List, [], ◌∷◌, ◌++◌, map, ℤ, pos, negsuc, sym, refl, ap, ◌∙◌, arith}
 use Rattle.std.specs.List.{flat_map, AllByRecursion}
 use Rattle.std.proofs.lemmas.Bool.{and_parts, and_from, le-leb, leb-true, lt-ltb}
 use Rattle.formula.specs.Boolean.{Clause, number, local}
 use Rattle.formula.specs.Tests.{every}
-use Rattle.formula.proofs.Tests.{every_append, every_weaker, every_map}
+use Rattle.formula.proofs.Tests.{every_append, every_joined, every_weaker, every_map}
 use Rattle.formula.specs.declared.signed.Literal.{Literal}
 use Rattle.mapping.specs.Forms.{Form, all_of, any_of, members, shifted, shifted_form, choices, distributed}
 use Rattle.mapping.specs.Meanings.{Meaning, Lawful}
@@ -16,7 +16,7 @@ use Rattle.store.specs.Stores.{fits}
 use Rattle.translator.specs.declared.places.Place.{Place}
 use Rattle.translator.specs.declared.placed.PlacedForm.{PlacedForm}
 use Rattle.translator.specs.Places.{place_at, form_at, reach}
-use Rattle.translator.specs.Placed.{of_kind, form_in, own_literals, Few, Small}
+use Rattle.translator.specs.Placed.{of_kind, form_in, own_literals, Small}
 
 -- a variable's own literal, behind the Booleans before it
 pub shifted_number : (n : ℕ) (l : ℤ) → number (shifted n l) ≡ number l + n
@@ -55,17 +55,14 @@ module _ (M : Meaning) (lawful : Lawful M) (L : ℕ) (ps : List Place) where
 
 module _ (L : ℕ) where
   fits_fronted : (c : List ℤ) → every (fits L) c ≡ true → (ds : List Clause) → every (every (fits L)) ds ≡ true → every (every (fits L)) (fronted ds c) ≡ true
-  fits_fronted c h [] k = refl
-  fits_fronted c h (d ∷ ds) k =
-      let both = and_parts (every (fits L) d) (every (every (fits L)) ds) k in
-      and_from (every (fits L) (c ++ d)) (every (every (fits L)) (fronted ds c)) (every_append (fits L) c d h both.0) (fits_fronted c h ds both.1)
+  fits_fronted c h ds k =
+      every_map (every (fits L)) (λ d. c ++ d) ds (every_weaker (every (fits L)) (λ d. every (fits L) (c ++ d)) (λ d. every_append (fits L) c d h) ds k)
 
   fits_joined : (cs : List (List ℤ)) → every (every (fits L)) cs ≡ true → (ds : List Clause) → every (every (fits L)) ds ≡ true →
       every (every (fits L)) (flat_map (fronted ds) cs) ≡ true
-  fits_joined [] h ds k = refl
-  fits_joined (c ∷ cs) h ds k =
-      let both = and_parts (every (fits L) c) (every (every (fits L)) cs) h in
-      every_append (every (fits L)) (fronted ds c) (flat_map (fronted ds) cs) (fits_fronted c both.0 ds k) (fits_joined cs both.1 ds k)
+  fits_joined cs h ds k =
+      every_joined (every (fits L)) (fronted ds) cs
+      ∙ every_weaker (every (fits L)) (λ c. every (every (fits L)) (fronted ds c)) (λ c own. fits_fronted c own ds k) cs h
 
   fits_choices : (f : Form) → form_fits L f ≡ true → every (every (fits L)) (choices f) ≡ true
   fits_choices (all_of ls) h = every_map (every (fits L)) (λ l. l ∷ []) ls (every_weaker (fits L) (λ l. every (fits L) (l ∷ [])) (λ l k. and_from (fits L l) true k refl) ls h)
@@ -81,20 +78,19 @@ module _ (L : ℕ) where
   members_held : (p : PlacedForm) → members (form_in p) ≡ own_literals p
   members_held p = by_kind p.kind
     where
-      by_kind : (k : Kind) → members (shifted_form p.start (of_kind k (take p.count p.literals))) ≡ own_literals p
+      by_kind : (k : Kind) → members (shifted_form p.start (of_kind k p.literals.items)) ≡ own_literals p
       by_kind AllOf = refl
       by_kind AnyOf = refl
 
-  pub all_small : L ≤ 2 ^ 31 - 1 → (ps : List PlacedForm) → AllByRecursion Few ps → every (form_fits L) (map form_in ps) ≡ true → AllByRecursion Small ps
-  all_small bound [] few h = tt
-  all_small bound (p ∷ ps) few h =
+  pub all_small : L ≤ 2 ^ 31 - 1 → (ps : List PlacedForm) → every (form_fits L) (map form_in ps) ≡ true → AllByRecursion Small ps
+  all_small bound [] h = tt
+  all_small bound (p ∷ ps) h =
       let both = and_parts (form_fits L (form_in p)) (every (form_fits L) (map form_in ps)) h in (
         record {
-          few = few.0;
           numbers =
               every_weaker (fits L) (λ l. ltb (number l) (2 ^ 31))
               (λ l k. lt-ltb _ _ (omega (arith, leb-true (number l) L (and_parts (leb 1 (number l)) (leb (number l) L) k).1)))
               (own_literals p) (ap (every (fits L)) (sym (members_held p)) ∙ both.0);
         },
-        all_small bound ps few.1 both.1,
+        all_small bound ps both.1,
       )

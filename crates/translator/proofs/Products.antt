@@ -1,5 +1,5 @@
 -- The clauses of a product, form by form. Assumes nothing.
-use Rattle.std.proofs.Common.{◌≡◌, ℕ, ◌+◌, ◌<◌, ◌≤◌, List, [], ◌∷◌, ◌++◌, map, length, get_or, take, drop, ℤ, sym, refl, ap, ◌∙◌, append_assoc, append-nil}
+use Rattle.std.proofs.Common.{◌≡◌, ℕ, ◌+◌, ◌<◌, ◌≤◌, List, [], ◌∷◌, ◌++◌, map, length, get_or, drop, ℤ, sym, refl, ap, ◌∙◌, append_assoc, append-nil}
 use Rattle.std.specs.List.{flat_map}
 use Rattle.std.proofs.lemmas.List.{map-append, drop_more, drop_all}
 use Rattle.formula.specs.Boolean.{Clause}
@@ -17,10 +17,10 @@ behind_twice p q [] = refl
 behind_twice p q (d ∷ ds) = (λ i. sym (append_assoc p q d) i ∷ behind_twice p q ds i)
 
 pub form_all : (p : PlacedForm) → p.kind ≡ AllOf → form_in p ≡ all_of (own_literals p)
-form_all p is = ap (λ (k : Kind). shifted_form p.start (of_kind k (take p.count p.literals))) is
+form_all p is = ap (λ (k : Kind). shifted_form p.start (of_kind k p.literals.items)) is
 
 pub form_any : (p : PlacedForm) → p.kind ≡ AnyOf → form_in p ≡ any_of (own_literals p)
-form_any p is = ap (λ (k : Kind). shifted_form p.start (of_kind k (take p.count p.literals))) is
+form_any p is = ap (λ (k : Kind). shifted_form p.start (of_kind k p.literals.items)) is
 
 -- what an all-of form's choices from the i-th on give, behind the literals of front
 abbrev pub left : List ℤ → List Clause → List ℤ → ℕ → List Clause
@@ -52,9 +52,8 @@ pub product_none : (front : List ℤ) → product_behind front [] ≡ front ∷ 
 product_none front = ap (λ c. c ∷ []) (append-nil front)
 
 -- the clauses of an all-of form's first i choices are stored: what is left gives the whole
-pub record Going {Cell : Type 0} (T T' : Terms Cell) (K₀ K : Contents Cell) (front₀ front : List ℤ) (used : ℕ) (p : PlacedForm) (ps : List PlacedForm) (i : ℕ) : Type 0 where
+pub record Going {Cell : Type 0} (T T' : Terms Cell) (K₀ K : Contents Cell) (front₀ front : List ℤ) (p : PlacedForm) (ps : List PlacedForm) (i : ℕ) : Type 0 where
   pub terms : T' ≡ T
-  pub whole : with_all T K (left (take used front₀) (distributed (map form_in ps)) (own_literals p) i) ≡ with_all T K₀ (left (take used front₀) (distributed (map form_in ps)) (own_literals p) 0)
-  pub takes : Takes T K (left (take used front₀) (distributed (map form_in ps)) (own_literals p) i)
-  pub kept : take used front ≡ take used front₀
-  pub long : length front ≡ 128
+  pub whole : with_all T K (left front₀ (distributed (map form_in ps)) (own_literals p) i) ≡ with_all T K₀ (left front₀ (distributed (map form_in ps)) (own_literals p) 0)
+  pub takes : Takes T K (left front₀ (distributed (map form_in ps)) (own_literals p) i)
+  pub kept : front ≡ front₀

@@ -1,6 +1,5 @@
 -- What a store that has been asked for room can take. Assumes nothing.
-use Rattle.std.proofs.Common.{◌≡◌, ℕ, ◌≤◌, leb, List, map, length, take, ℤ, Ok, Err, Result, sym, ap, ◌∙◌, subst, ⊎_elim, arith}
-use Rattle.std.specs.List.{AllByRecursion}
+use Rattle.std.proofs.Common.{◌≡◌, ℕ, ◌≤◌, leb, List, [], map, length, ℤ, Ok, Err, Result, sym, ap, ◌∙◌, subst, ⊎_elim, arith}
 use Rattle.std.proofs.lemmas.List.{map-id}
 use Rattle.std.proofs.lemmas.Bool.{cases_Bool, cond-true, cond-false, leb-true}
 use Rattle.formula.specs.Boolean.{words_of}
@@ -14,7 +13,7 @@ use Rattle.translator.specs.declared.places.Place.{Place}
 use Rattle.translator.specs.declared.placed.PlacedForm.{PlacedForm}
 use Rattle.translator.specs.Filing.{room_answer, clause_answer, with_all, after_all}
 use Rattle.translator.specs.Places.{form_at, placed_clause, reach}
-use Rattle.translator.specs.Placed.{form_in, product_behind, Few, Takes, Ready}
+use Rattle.translator.specs.Placed.{form_in, product_behind, Takes, Ready}
 use Rattle.translator.proofs.Fitting.{form_fits, forms_fit, product_fits, all_small}
 
 -- an error is never Ok
@@ -38,7 +37,6 @@ module _ {Cell : Type 0} (T : Terms Cell) (K : Contents Cell) where
   -- the forms of a clause are loaded and counted, and the store is asked for room
   pub record Asked (M : Meaning) (ps : List Place) (ls : List Literal) (product : List PlacedForm) (h n : ℕ) (answer : Result (Unit {0}) StoreFault) : Type 0 where
     pub forms : map form_in product ≡ map (form_at M ps) ls
-    pub few : AllByRecursion Few product
     pub short : length product ≤ 16
     pub highest : h ≡ reach M ps ls
     pub counted : n ≡ words_of (distributed (map form_in product))
@@ -50,32 +48,28 @@ module _ {Cell : Type 0} (T : Terms Cell) (K : Contents Cell) where
         a.said ∙ (λ i. room_answer T K (a.highest i) (a.counted i))
         ∙ ap (λ (fs : List Form). room_answer T K (reach M ps ls) (words_of (distributed fs))) a.forms
 
-    behind_none : (front : List ℤ) → product_behind (take 0 front) product ≡ placed_clause M ps ls
-    behind_none front = map-id (distributed (map form_in product)) ∙ ap distributed a.forms
+    behind_none : product_behind [] product ≡ placed_clause M ps ls
+    behind_none = map-id (distributed (map form_in product)) ∙ ap distributed a.forms
 
     -- where the room is there, the store takes the clause's product
-    pub ready : Lawful M → Bounded T → (u : Unit {0}) → answer ≡ Ok u → (front : List ℤ) → Ready T K front 0 product
-    ready lawful bounded u ok front =
+    pub ready : Lawful M → Bounded T → (u : Unit {0}) → answer ≡ Ok u → (front : List ℤ) → front ≡ [] → Ready T K front product
+    ready lawful bounded u ok front none =
         let room = room_ok h n u (sym a.said ∙ ok) in
         let fit = forms_fit M lawful T.largest ps ls (omega (arith, room.0, a.highest)) in
-        record {
-          small = all_small T.largest bounded.largest product a.few (ap (every (form_fits T.largest)) a.forms ∙ fit);
+        subst (λ (xs : List ℤ). Ready T K xs product) (sym none)
+        (record {
+          small = all_small T.largest bounded.largest product (ap (every (form_fits T.largest)) a.forms ∙ fit);
           space = omega (arith, a.short);
-          takes = subst (Takes T K) (sym (behind_none front)) (record {
+          takes = subst (Takes T K) (sym behind_none) (record {
             fit = product_fits T.largest (map (form_at M ps) ls) fit;
             room = omega (arith, room.1, a.counted, ap words_of (ap distributed a.forms));
           });
-        }
+        })
 
-    -- refused, and nothing is stored
-    pub refused : (r : Result (Unit {0}) StoreFault) (e : StoreFault) → r ≡ Err e → answer ≡ Err e →
-        (r ≡ clause_answer M T K ps ls) × (K ≡ after_all r T K (placed_clause M ps ls))
-    refused r e is was = (is ∙ sym was ∙ answer_is, sym (ap (λ (x : Result (Unit {0}) StoreFault). after_all x T K (placed_clause M ps ls)) is))
-
-    -- or stored, all of it
-    pub stored : (r : Result (Unit {0}) StoreFault) (u : Unit {0}) (K' : Contents Cell) (front : List ℤ) → answer ≡ Ok u → r ≡ Ok tt → K' ≡ with_all T K (product_behind (take 0 front) product) →
+    -- the product is stored, all of it
+    pub stored : (r : Result (Unit {0}) StoreFault) (u : Unit {0}) (K' : Contents Cell) (front : List ℤ) → answer ≡ Ok u → front ≡ [] → r ≡ Ok tt → K' ≡ with_all T K (product_behind front product) →
         (r ≡ clause_answer M T K ps ls) × (K' ≡ after_all r T K (placed_clause M ps ls))
-    stored r u K' front was is after = (
+    stored r u K' front was none is after = (
       is ∙ sym was ∙ answer_is,
-      after ∙ ap (with_all T K) (behind_none front) ∙ sym (ap (λ (x : Result (Unit {0}) StoreFault). after_all x T K (placed_clause M ps ls)) is),
+      after ∙ ap (λ (xs : List ℤ). with_all T K (product_behind xs product)) none ∙ ap (with_all T K) behind_none ∙ sym (ap (λ (x : Result (Unit {0}) StoreFault). after_all x T K (placed_clause M ps ls)) is),
     )

@@ -1,5 +1,5 @@
 -- How code holds a form: its kind, how many literals it has, and those, over its variable's own Booleans. Assumes nothing.
-use Rattle.std.specs.Prelude.{◌≡◌, ℕ, ◌+◌, ◌*◌, ◌^◌, ◌≤◌, true, List, ◌++◌, map, length, take, ℤ, nat_lt}
+use Rattle.std.specs.Prelude.{◌≡◌, ◌+◌, ◌*◌, ◌^◌, ◌≤◌, true, List, ◌++◌, map, length, ℤ, nat_lt}
 use Rattle.std.specs.List.{AllByRecursion}
 use Rattle.formula.specs.Boolean.{Clause, number, words_of}
 use Rattle.formula.specs.Tests.{every}
@@ -15,11 +15,7 @@ of_kind AnyOf ls = any_of ls
 
 -- the form over the Booleans of the whole sheet
 abbrev pub form_in : PlacedForm → Form
-form_in p = shifted_form p.start (of_kind p.kind (take p.count p.literals))
-
--- it has at most 8 literals, and 8 places for them
-abbrev pub Few : PlacedForm → Type 0
-Few p = (p.count ≤ 8) × (length p.literals ≡ 8)
+form_in p = shifted_form p.start (of_kind p.kind p.literals.items)
 
 -- the clauses of a product of forms, each behind the same literals
 abbrev pub product_behind : List ℤ → List PlacedForm → List Clause
@@ -32,15 +28,14 @@ pub record Takes {Cell : Type 0} (T : Terms Cell) (K : Contents Cell) (cs : List
 
 -- its literals over the Booleans of the whole sheet
 abbrev pub own_literals : PlacedForm → List ℤ
-own_literals p = map (shifted p.start) (take p.count p.literals)
+own_literals p = map (shifted p.start) p.literals.items
 
 -- their numbers are those of an i32
 pub record Small (p : PlacedForm) : Type 0 where
-  pub few : Few p
   pub numbers : every (λ l. nat_lt (number l) (2 ^ 31)) (own_literals p) ≡ true
 
 -- what the recursion over a product's forms asks: places for the literals still to come, and a store that can take every clause
-pub record Ready {Cell : Type 0} (T : Terms Cell) (K : Contents Cell) (front : List ℤ) (used : ℕ) (ps : List PlacedForm) : Type 0 where
+pub record Ready {Cell : Type 0} (T : Terms Cell) (K : Contents Cell) (front : List ℤ) (ps : List PlacedForm) : Type 0 where
   pub small : AllByRecursion Small ps
-  pub space : used + 8 * length ps ≤ 128
-  pub takes : Takes T K (product_behind (take used front) ps)
+  pub space : length front + 8 * length ps ≤ 128
+  pub takes : Takes T K (product_behind front ps)

@@ -1,32 +1,58 @@
 // The axioms of a variable, stored.
-ghost use Rattle.std.specs.Prelude.{◌≡◌, [], map, Ok};
-ghost use Rattle.mapping.specs.Memory.{flat, over};
+ghost use Rattle.std.specs.Prelude.{◌≡◌, ◌^◌, ◌<◌, true, [], map, Ok, nat_lt, ◌==◌, position};
+ghost use Rattle.formula.specs.Boolean.{number};
+ghost use Rattle.formula.specs.Tests.{every};
+ghost use Rattle.mapping.specs.Memory.{flat, over, shifted_word};
 ghost use Rattle.translator.specs.Filing.{axioms_answer, with_all, after_all};
 ghost use Rattle.translator.specs.Places.{placed_axioms};
-ghost use Rattle.translator.specs.Words.{ended_in, shifted_word, Storable, axioms_left};
+ghost use Rattle.translator.specs.Placed.{Takes};
+ghost use Rattle.translator.specs.Words.{ended_in, axioms_left};
 
 use crate::placed::shift;
 use crate::room::check_room;
 use mapping::{AXIOM_WORDS, Mapping};
 use store::{Store, StoreFault};
 
-// Moves words behind the Booleans before a variable's own, and puts each clause as it ends.
-// The store has been asked for room, so no put refuses.
-fn put_words<S: Store>(store: &mut S, words: &mut [i32], start: u32) -> Result<(), StoreFault>
-    requires { Storable (S.Store.terms store.old) (S.Store.contents store.old) start words.old }
-    ensures answer { result ≡ Ok tt }
-    ensures after { S.Store.contents store.new ≡ with_all (S.Store.terms store.old) (S.Store.contents store.old) (ended_in [] (map (shifted_word start) words.old)) }
-    ensures same { S.Store.terms store.new ≡ S.Store.terms store.old }
-    ensures words { words.new ≡ map (shifted_word start) words.old }
+// A word, moved behind the Booleans before a variable's own; an end stays an end.
+fn move_word(word: i32, start: u32) -> i32
+    requires { number (shifted_word start word) < 2 ^ 31 }
+    ensures { result ≡ shifted_word start word }
 {
+    if word == 0 { 0 } else { shift(word, start) }
+}
+
+// The same for each of these words.
+fn move_words(words: &mut [i32], start: u32)
+    requires { every (λ w. nat_lt (number (shifted_word start w)) (2 ^ 31)) words.old ≡ true }
+    ensures { words.new ≡ map (shifted_word start) words.old }
+{
+    for word in words.iter_mut() {
+        *word = move_word(*word, start);
+    }
+}
+
+// The number of words before the first end.
+fn find_end(words: &[i32]) -> Option<usize>
+    ensures { result ≡ position (λ w. number w == 0) words.now }
+{
+    words.iter().position(|word| *word == 0)
+}
+
+// Puts each clause that ends in these words, which are left as they were.
+// The store has been asked for room, so no put refuses.
+fn put_clauses<S: Store>(store: &mut S, words: &mut [i32]) -> Result<(), StoreFault>
+    requires { Takes (S.Store.terms store.old) (S.Store.contents store.old) (ended_in [] words.old) }
+    ensures answer { result ≡ Ok tt }
+    ensures after { S.Store.contents store.new ≡ with_all (S.Store.terms store.old) (S.Store.contents store.old) (ended_in [] words.old) }
+    ensures same { S.Store.terms store.new ≡ S.Store.terms store.old }
+    ensures kept { words.new ≡ words.old }
+{
+    // kept: a place by hand; after a loop over `split_inclusive_mut` it stays open that the words are as they were
     let mut begin = 0;
-    for i in 0..words.len() {
-        if words[i] == 0 {
-            store.put(&mut words[begin..i])?;
-            begin = i + 1;
-        } else {
-            words[i] = shift(words[i], start);
-        }
+    while let Some(length) = find_end(&words[begin..]) {
+        let end = begin + length;
+        store.put(&mut words[begin..end])?;
+        begin = end + 1;
     }
     Ok(())
 }
@@ -46,7 +72,9 @@ pub fn file_axioms<M: Mapping, S: Store>(
     ensures memory { memory.new ≡ over (flat (axioms_left result M.Mapping.meaning start size)) memory.old }
 {
     let count = mapping.axioms(size, memory);
-    let highest = start as u64 + mapping.width(size) as u64;
+    let highest = u64::from(start) + u64::from(mapping.width(size));
     check_room(store, highest, count as u64)?;
-    put_words(store, &mut memory[0..count], start)
+    let words = &mut memory[..count];
+    move_words(words, start);
+    put_clauses(store, words)
 }

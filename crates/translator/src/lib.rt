@@ -3,6 +3,7 @@
 
 pub mod axioms;
 pub mod clauses;
+mod layout;
 mod placed;
 pub mod places;
 mod product;

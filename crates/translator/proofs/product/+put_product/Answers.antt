@@ -1,69 +1,99 @@
-use Rattle.std.proofs.Common.{◌≡◌, ℕ, ◌-◌, ◌<◌, ◌≤◌, List, ◌++◌, length, take, ℤ, refl, ap, ◌∙◌, arith, rules}
-use native.Mathlib.Nat.{sub-zero}
-use Rattle.std.proofs.lemmas.List.{nil_from_length, take_at, length-take-le}
+use Rattle.std.proofs.Common.{◌≡◌, ℕ, ◌-◌, ◌^◌, ◌<◌, ◌++◌, ◌∷◌, List, [], length, get_or, take, drop, ℤ, pos, sym, ap, ◌∙◌, subst, arith, w32, SFits, to_z, of_z, rules}
+use Rattle.std.proofs.lemmas.Int.{to_z-of_z}
+use Rattle.std.proofs.lemmas.List.{nil_from_length}
 use Rattle.std.proofs.lemmas.Slice.{first_rest}
-use Rattle.translator.proofs.Steps.{leaf, going_none, ready_one, going_more, going_all, ready_any, after_any, kept_any}
+use Rattle.arrayvec.proofs.ArrayVecLemmas.{items-with_items}
+use Rattle.formula.specs.Boolean.{number}
+use Rattle.mapping.specs.Forms.{shifted}
+use Rattle.store.specs.Stores.{put_answer, after_put}
+use Rattle.translator.specs.declared.placed.PlacedForm.{PlacedForm}
+use Rattle.translator.proofs.Steps.{moved, own_more, own_all, leaf, small, ready_one, going_more, going_all, ready_any, after_any}
 use Rattle.translator.proofs.product.+put_product.Goals as goal
 
--- what stands in front is as it was lent
-front_kept : (front xs post : List ℤ) (used : ℕ) → xs ≡ take used front → used ≤ length front → take used (xs ++ post) ≡ take used front
-front_kept front xs post used is within = ap (λ ys. take used (ys ++ post)) is ∙ take_at (take used front) post used (length-take-le used front within)
+-- the first form and the others
+parts : (ps : List PlacedForm) (p : PlacedForm) → 0 < length ps → p ≡ get_or ps 0 p → ps ≡ p ∷ take (length ps - 1) (drop 1 ps)
+parts ps p some is = first_rest ps p some ∙ ap (λ q. q ∷ take (length ps - 1) (drop 1 ps)) (sym is)
+
+-- a literal as the loop reads it
+read : (xs ls : List ℤ) (i : ℕ) → SFits w32 (get_or xs i (pos 0)) → xs ≡ ls → to_z w32 (of_z w32 (get_or xs i (pos 0))) ≡ get_or ls i (pos 0)
+read xs ls i fits is = to_z-of_z w32 _ fits ∙ ap (λ ys. get_or ys i (pos 0)) is
+
+-- a literal that is pushed, moved behind the Booleans before its form's own
+pushed : (p : PlacedForm) (front' front xs : List ℤ) (i : ℕ) (l : ℤ) → SFits w32 (get_or xs i (pos 0)) → SFits w32 l → xs ≡ p.literals.items →
+    l ≡ shifted p.start (to_z w32 (of_z w32 (get_or xs i (pos 0)))) → front' ≡ front ++ to_z w32 (of_z w32 l) ∷ [] → front' ≡ front ++ moved p i ∷ []
+pushed p front' front xs i l fits moved_fits is shift push =
+    push ∙ ap (λ z. front ++ z ∷ []) (to_z-of_z w32 l moved_fits ∙ shift ∙ ap (shifted p.start) (read xs p.literals.items i fits is))
 
 pub returns-in_default : goal.returns-in_default
 returns-in_default g t c =
-    let S = g.S.Store in
-    let used = c.args.used in
-    let front = c.args.front.now in
-    let none : length c.args.forms.now < 1 = search rules in
-    let whole : take (used - 0) front ≡ take used front = ap (λ n. take n front) (sub-zero used) in
-    let done = leaf (S.terms c.args.store.now) _ _ front used c.args.forms.now _ _ (nil_from_length _ (omega arith)) c.requires whole c.put.ensures.answer c.put.ensures.after in
-    record {
-      answer = done.0;
-      after = done.1;
-      same = c.put.ensures.same;
-      kept = front_kept front _ _ used (c.put.ensures.lent ∙ whole) (omega (arith, c.requires.space, c.told-front));
-    }
+    let T = g.S.Store.terms c.args.store.now in
+    let K = g.S.Store.contents c.args.store.now in
+    let said = c.put.ensures.answer ∙ ap (put_answer T K) c.as_mut_slice.ensures.value in
+    let after = c.put.ensures.after ∙ ap (after_put c.put.result T K) c.as_mut_slice.ensures.value in
+    let done = leaf T K _ _ c.args.forms.now _ (nil_from_length _ (omega arith)) c.requires said after in
+    let lent = c.put.ensures.lent ∙ c.as_mut_slice.ensures.value in
+    record { answer = done.0; after = done.1; same = c.put.ensures.same; kept = items-with_items c.args.front.now c.put.new.clause (ap length lent) ∙ lent }
 
-pub loop-i-init : goal.loop-i-init
-loop-i-init g t c =
-    let some : 0 < length c.args.forms.now = search rules in
-    going_none _ _ _ _ _ _ c.args.forms.now (first_rest c.args.forms.now _ some) c.in-AllOf.is c.told-front c.requires
+pub shift-requires : goal.shift-requires
+shift-requires g t c =
+    let fits : SFits w32 (get_or c.as_slice-literals.result.now c.loop-choice.choice-index (pos 0)) = search rules in
+    let p = c.first-item.result in
+    let is = parts c.args.forms.now p (search rules) c.first-item.is in
+    let one = read _ p.literals.items _ fits c.as_slice-literals.ensures.value in
+    subst (λ z. number (shifted p.start z) < 2 ^ 31) (sym one)
+    (small _ _ _ _ _ _ is c.requires c.loop-choice.choice-index (omega (arith, ap length c.as_slice-literals.ensures.value)))
 
 pub put_product-requires : goal.put_product-requires
 put_product-requires g t c κs within =
-    let some : 0 < length c.args.forms.now = search rules in
-    (search rules, (search rules, ready_one _ _ _ _ _ _ _ _ _ _ c.args.forms.now (first_rest c.args.forms.now _ some) c.requires c.loop-i.invariant (omega arith) _ c.put_literal.ensures))
+    let fits : SFits w32 (get_or c.as_slice-literals.result.now c.loop-choice.choice-index (pos 0)) = search rules in
+    let out : SFits w32 c.shift.result = search rules in
+    let p = c.first-item.result in
+    let is = parts c.args.forms.now p (search rules) c.first-item.is in
+    let push = pushed p _ _ _ c.loop-choice.choice-index _ fits out c.as_slice-literals.ensures.value c.shift.ensures c.push.ensures.items in
+    (search rules, (search rules, ready_one _ _ _ _ _ _ is c.requires _ _ _ _ c.loop-choice.invariant _ (omega (arith, ap length c.as_slice-literals.ensures.value)) push))
 
-pub loop-i-preserved : goal.loop-i-preserved
-loop-i-preserved g t c =
-    let some : 0 < length c.args.forms.now = search rules in
-    let said = c.put_product.ensures in
-    going_more _ _ _ _ _ _ _ _ _ _ c.args.forms.now (first_rest c.args.forms.now _ some) c.requires c.loop-i.invariant (omega arith)
-    _ _ _ _ c.put_literal.ensures said.same said.after said.kept c.put_product.array_long
+pub loop-choice-preserved : goal.loop-choice-preserved
+loop-choice-preserved g t c =
+    let fits : SFits w32 (get_or c.as_slice-literals.result.now c.loop-choice.choice-index (pos 0)) = search rules in
+    let out : SFits w32 c.shift.result = search rules in
+    let p = c.first-item.result in
+    let is = parts c.args.forms.now p (search rules) c.first-item.is in
+    let push = pushed p _ _ _ c.loop-choice.choice-index _ fits out c.as_slice-literals.ensures.value c.shift.ensures c.push.ensures.items in
+    let cut = c.truncate.ensures.items ∙ (λ j. take (c.len-used.ensures.value j) (c.put_product.ensures.kept j)) in
+    going_more _ _ _ _ _ _ is c.requires _ _ _ _ c.loop-choice.invariant _ (omega (arith, ap length c.as_slice-literals.ensures.value)) push _ _ _
+    c.put_product.ensures.same c.put_product.ensures.after cut
+
+pub shift-requires-in-loop-literal : goal.shift-requires-in-loop-literal
+shift-requires-in-loop-literal g t c =
+    let fits : SFits w32 (get_or c.as_slice-literals.result.now c.loop-literal.literal-index (pos 0)) = search rules in
+    let p = c.first-item.result in
+    let is = parts c.args.forms.now p (search rules) c.first-item.is in
+    let one = read _ p.literals.items _ fits c.as_slice-literals.ensures.value in
+    subst (λ z. number (shifted p.start z) < 2 ^ 31) (sym one)
+    (small _ _ _ _ _ _ is c.requires c.loop-literal.literal-index (omega (arith, ap length c.as_slice-literals.ensures.value)))
+
+pub loop-literal-preserved : goal.loop-literal-preserved
+loop-literal-preserved g t c =
+    let i = c.loop-literal.literal-index in
+    let fits : SFits w32 (get_or c.as_slice-literals.result.now i (pos 0)) = search rules in
+    let out : SFits w32 c.shift-in-loop-literal.result = search rules in
+    let p = c.first-item.result in
+    let push = pushed p _ _ _ i _ fits out c.as_slice-literals.ensures.value c.shift-in-loop-literal.ensures c.push-in-loop-literal.ensures.items in
+    push ∙ ap (λ xs. xs ++ moved p i ∷ []) c.loop-literal.invariant ∙ own_more p c.args.front.now.items i (omega (arith, ap length c.as_slice-literals.ensures.value))
 
 pub put_product-requires-in-AnyOf : goal.put_product-requires-in-AnyOf
 put_product-requires-in-AnyOf g t c κs within =
-    let some : 0 < length c.args.forms.now = search rules in
-    (search rules, (search rules, ready_any _ _ _ _ _ _ c.args.forms.now (first_rest c.args.forms.now _ some) c.in-AnyOf.is c.requires _ c.put_literals.ensures))
+    let p = c.first-item.result in
+    let is = parts c.args.forms.now p (search rules) c.first-item.is in
+    (search rules, (search rules, ready_any _ _ _ _ _ _ is c.requires c.in-AnyOf.is _ (c.loop-literal.invariant ∙ ap (λ xs. c.args.front.now.items ++ xs) (own_all p _ (omega (arith, ap length c.as_slice-literals.ensures.value))))))
 
-pub returns-after-loop-i : goal.returns-after-loop-i
-returns-after-loop-i g t c =
-    let some : 0 < length c.args.forms.now = search rules in
-    record {
-      answer = refl;
-      after = going_all _ _ _ _ _ _ _ _ _ _ c.args.forms.now (first_rest c.args.forms.now _ some) c.requires c.loop-i.invariant c.in-AllOf.is (omega arith);
-      same = c.loop-i.invariant.terms;
-      kept = c.loop-i.invariant.kept;
-    }
+pub returns-after-loop-choice-clause-after : goal.returns-after-loop-choice-clause-after
+returns-after-loop-choice-clause-after g t c =
+    let is = parts c.args.forms.now c.first-item.result (search rules) c.first-item.is in
+    going_all _ _ _ _ _ _ is c.requires _ _ _ _ c.loop-choice.invariant c.in-AllOf.is (omega (arith, ap length c.as_slice-literals.ensures.value))
 
-pub returns-in-AnyOf : goal.returns-in-AnyOf
-returns-in-AnyOf g t c =
-    let some : 0 < length c.args.forms.now = search rules in
-    let said = c.put_product-in-AnyOf.ensures in
-    let is = first_rest c.args.forms.now _ some in
-    record {
-      answer = said.answer;
-      after = after_any _ _ _ _ _ _ c.args.forms.now is c.in-AnyOf.is c.requires _ c.put_literals.ensures _ said.after;
-      same = said.same;
-      kept = kept_any _ _ _ _ _ _ c.args.forms.now is c.in-AnyOf.is c.requires _ c.put_literals.ensures _ (omega (arith, c.requires.space, c.told-front)) said.kept;
-    }
+pub returns-in_ok-put_product-in-AnyOf-clause-after : goal.returns-in_ok-put_product-in-AnyOf-clause-after
+returns-in_ok-put_product-in-AnyOf-clause-after g t c =
+    let p = c.first-item.result in
+    let is = parts c.args.forms.now p (search rules) c.first-item.is in
+    after_any _ _ _ _ _ _ is c.requires c.in-AnyOf.is _ (c.loop-literal.invariant ∙ ap (λ xs. c.args.front.now.items ++ xs) (own_all p _ (omega (arith, ap length c.as_slice-literals.ensures.value)))) _ c.put_product-in-AnyOf.ensures.after

@@ -1,36 +1,39 @@
-use Rattle.std.proofs.Common.{◌+◌, ◌≤◌, refl, mul-le-mul, arith}
-use Rattle.std.proofs.ByRecursion.{All-get_or}
-use Rattle.translator.specs.Placed.{Few}
-use Rattle.translator.proofs.Counting.{counted_more, counted_fits, counted_all}
+use Rattle.std.proofs.Common.{rules, ◌≡◌, ◌≤◌, ◌+◌, map, arith, tests, mul-le-mul, refl, sum_by}
+use Rattle.std.proofs.lemmas.Iterator.{YieldsList-from_slice, YieldsList-from_map}
+use Rattle.std.proofs.lemmas.Iterator.Consumers.{sum_by_from_yields_List, fits_by_from_yields_list}
+use Rattle.translator.proofs.Counting.{split_of, taken_of, multiplied, product_is, product_fits, front_fits, product_few, sum_few, counted}
 use Rattle.translator.proofs.product.count_words.Goals as goal
 
-pub split_of-product-requires : goal.split_of-product-requires
-split_of-product-requires c = All-get_or Few c.args.forms.now _ _ c.loop-form-test.true c.requires.0
+pub product-clauses-requires-clause-fits : goal.product-clauses-requires-clause-fits
+product-clauses-requires-clause-fits c =
+    product_fits c.map.result (map split_of c.args.forms.now) _
+    (YieldsList-from_map _ split_of (YieldsList-from_slice c.args.forms.now cc) c.map.ensures.closure (λ x r q k. search (rules, tests)))
+    (front_fits c.args.forms.now c.requires)
 
-pub taken_of-literals-requires : goal.taken_of-literals-requires
-taken_of-literals-requires c = All-get_or Few c.args.forms.now _ _ c.loop-form-test.true c.requires.0
+pub sum-literals-requires-clause-fits : goal.sum-literals-requires-clause-fits
+sum-literals-requires-clause-fits c =
+    fits_by_from_yields_list taken_of c.args.forms.now c.map-2.result _
+    (YieldsList-from_map _ taken_of (YieldsList-from_slice c.args.forms.now cc) c.map-2.ensures.closure (λ x r q k. search (rules, tests)))
+    (omega (arith, sum_few c.args.forms.now c.requires _ refl))
 
-pub overflow_mul-product : goal.overflow_mul-product
-overflow_mul-product c =
-    let next = counted_more c.args.forms.now _ _ _ _ _ _ c.loop-form-test.true c.requires.0 c.loop-form.invariant c.split_of-product.ensures refl in
-    let small = counted_fits _ _ _ _ (omega (arith, c.loop-form-test.true, c.requires.1)) next in
-    omega (arith, small.0)
+-- the results are the product of the splits and the sum of what each choice takes
+clauses : (c : goal.After-sum-literals) → c.product-clauses.result ≡ multiplied (map split_of c.args.forms.now)
+clauses c =
+    product_is c.map.result _ _ (YieldsList-from_map _ split_of (YieldsList-from_slice c.args.forms.now cc) c.map.ensures.closure (λ x r q k. search (rules, tests)))
+    c.product-clauses.ensures.ran
 
-pub loop-form-preserved : goal.loop-form-preserved
-loop-form-preserved c =
-    counted_more c.args.forms.now _ _ _ _ _ _ c.loop-form-test.true c.requires.0 c.loop-form.invariant c.split_of-product.ensures c.taken_of-literals.ensures
+literals : (c : goal.After-sum-literals) → c.sum-literals.result ≡ sum_by taken_of c.args.forms.now
+literals c =
+    sum_by_from_yields_List taken_of c.args.forms.now c.map-2.result _ c.sum-literals.ensures.ran
+    (YieldsList-from_map _ taken_of (YieldsList-from_slice c.args.forms.now cc) c.map-2.ensures.closure (λ x r q k. search (rules, tests)))
 
-pub overflow_add-literals : goal.overflow_add-literals
-overflow_add-literals c =
-    let next = counted_more c.args.forms.now _ _ _ _ _ _ c.loop-form-test.true c.requires.0 c.loop-form.invariant c.split_of-product.ensures c.taken_of-literals.ensures in
-    let small = counted_fits _ _ _ _ (omega (arith, c.loop-form-test.true, c.requires.1)) next in
-    omega (arith, small.1)
+pub overflow_add-result : goal.overflow_add-result
+overflow_add-result c = omega (arith, sum_few c.args.forms.now c.requires _ (literals c))
 
 pub overflow_mul-result : goal.overflow_mul-result
 overflow_mul-result c =
-    let small = counted_fits _ _ _ _ (omega (arith, c.loop-form.auto.form-index-end, c.requires.1)) c.loop-form.invariant in
-    let more : c.loop-form.literals + 1 ≤ 129 = omega (arith, small.1) in
-    omega (arith, mul-le-mul small.0 more)
+    let more : c.sum-literals.result + 1 ≤ 129 = omega (arith, sum_few c.args.forms.now c.requires _ (literals c)) in
+    omega (arith, mul-le-mul (product_few c.args.forms.now c.requires _ (clauses c)) more)
 
 pub returns : goal.returns
-returns c = counted_all c.args.forms.now _ _ _ c.loop-form-test.false c.loop-form.invariant
+returns c = counted c.args.forms.now c.requires _ _ (clauses c) (literals c)

@@ -1,0 +1,79 @@
+// What a mapping and the places of the variables make of a clause.
+ghost use Rattle.std.specs.Prelude.{◌≡◌, ◌≤◌, [], ◌∷◌, length, map};
+ghost use Rattle.translator.specs.Places.{place_at, form_at, reach};
+ghost use Rattle.translator.specs.Placed.{form_in};
+
+use crate::placed::PlacedForm;
+use crate::places::Place;
+use arrayvec::ArrayVec;
+use formula::Literal;
+use mapping::{FORM_LITERALS, Mapping};
+
+// A clause has at most 16 literals, each with its form.
+pub(crate) const CLAUSE_FORMS: usize = 16;
+
+// A mapping, and where the Booleans of the declared variables lie.
+#[derive(Drop)]
+pub(crate) struct Layout<'a, M> {
+    pub(crate) mapping: &'a M,
+    pub(crate) places: &'a [Place],
+}
+
+impl<M: Mapping> Layout<'_, M> {
+    // The place of a variable, and no place where there is none of its number.
+    fn place(&self, variable: u32) -> Place
+        ensures { result ≡ place_at self.now.places.now variable }
+    {
+        let index = (variable as usize).saturating_sub(1);
+        self.places.get(index).copied().unwrap_or_default()
+    }
+
+    // The form of a literal, as the mapping has it.
+    fn form(&self, literal: &Literal) -> PlacedForm
+        ensures { form_in result ≡ form_at M.Mapping.meaning self.now.places.now literal.now }
+    {
+        let place = self.place(literal.variable);
+        let mut literals = [0; FORM_LITERALS];
+        let shape = self
+            .mapping
+            .form(place.size, literal.sign, literal.value, &mut literals);
+        let mut literals = ArrayVec::from(literals);
+        literals.truncate(shape.count);
+        PlacedForm {
+            kind: shape.kind,
+            literals,
+            start: place.start,
+        }
+    }
+
+    // The forms of the literals of a clause, in order.
+    pub(crate) fn forms(&self, literals: &[Literal]) -> ArrayVec<PlacedForm, CLAUSE_FORMS>
+        requires { length literals.now ≤ 16 }
+        ensures { map form_in result.items ≡ map (form_at M.Mapping.meaning self.now.places.now) literals.now }
+    {
+        let mut forms = ArrayVec::new();
+        for literal in literals {
+            forms.push(self.form(literal));
+        }
+        forms
+    }
+
+    // The number of the last Boolean of the variable of a literal.
+    fn last(&self, literal: &Literal) -> u64
+        ensures { result ≡ reach M.Mapping.meaning self.now.places.now (literal.now ∷ []) }
+    {
+        let place = self.place(literal.variable);
+        u64::from(place.start) + u64::from(self.mapping.width(place.size))
+    }
+
+    // The number of the last Boolean of the variables that the literals name.
+    pub(crate) fn reach(&self, literals: &[Literal]) -> u64
+        ensures { result ≡ reach M.Mapping.meaning self.now.places.now literals.now }
+    {
+        literals
+            .iter()
+            .map(|literal| self.last(literal))
+            .max()
+            .unwrap_or(0)
+    }
+}
