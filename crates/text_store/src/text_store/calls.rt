@@ -1,12 +1,12 @@
 // The calls of the text store.
 ghost use Rattle.std.specs.Prelude.{◌≡◌, ℕ, ◌-◌, ◌<◌, length, vec_len};
-ghost use Rattle.store.specs.Stores.{put_answer, after_put, after_cut};
+ghost use Rattle.store.specs.Stores.{words_answer, put_answer, after_put, after_cut};
 ghost use Rattle.text_store.specs.ByteStores.{byte_bounded, byte_empty, StandsFor};
 ghost use Rattle.text_store.specs.Texts.{text_clause, text_most};
 ghost use Rattle.text_store.specs.TextStores.{text_terms, terms_of, contents_of};
 
 use super::TextStore;
-use crate::fitting::{LARGEST, first_unfit};
+use crate::fitting::{LARGEST, check_numbers};
 use crate::scanning::last_piece;
 use crate::writing::write_clause;
 use formula::Details;
@@ -50,6 +50,20 @@ impl TextStore {
         self.bytes
     }
 
+    // Refuses words that pass those left.
+    fn check_room(&self, words: u64) -> Result<(), StoreFault>
+        ensures { result ≡ words_answer (terms_of self.now) (contents_of self.now) words }
+    {
+        let left = self.capacity().saturating_sub(self.words);
+        if words > left {
+            return Err(StoreFault::WordsShort(Details {
+                first: words,
+                second: left,
+            }));
+        }
+        Ok(())
+    }
+
     // Keeps all clauses but the last.
     fn drop_last(&mut self)
         requires { 0 < self.old.count }
@@ -79,20 +93,9 @@ impl Store for TextStore {
         ensures same { terms_of self.new ≡ terms_of self.old }
         ensures long { length (contents_of self.new).memory ≡ length (contents_of self.old).memory }
     {
-        if let Some(first) = first_unfit(clause) {
-            return Err(StoreFault::NumbersSpent(Details {
-                first,
-                second: self.largest(),
-            }));
-        }
+        check_numbers(clause)?;
         let words = clause.len() as u64 + 1;
-        let left = self.capacity().saturating_sub(self.words);
-        if words > left {
-            return Err(StoreFault::WordsShort(Details {
-                first: words,
-                second: left,
-            }));
-        }
+        self.check_room(words)?;
         let held = self.held;
         self.held = write_clause(self.bytes.as_mut_slice(), held, clause);
         self.words += words;
@@ -125,6 +128,6 @@ impl Store for TextStore {
     }
 
     fn largest(&self) -> u64 {
-        LARGEST as u64
+        u64::from(LARGEST)
     }
 }

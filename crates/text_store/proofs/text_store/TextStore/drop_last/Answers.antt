@@ -1,4 +1,4 @@
-use Rattle.std.proofs.Common.{take, vec_items, refl, ◌∙◌, lit<}
+use Rattle.std.proofs.Common.{take, vec_items, refl, ◌∙◌}
 use Rattle.text_store.specs.Bytes.{Closed, PieceFrom}
 use Rattle.text_store.proofs.Fronts.{fronted}
 use Rattle.text_store.proofs.Held.{held_closed, held_some, cut_words, cut_front, cut_contents}
@@ -15,7 +15,7 @@ before c = rw (c.held.ensures.text ∙ c.args.self.now.whole) at c.last_piece-la
 pub last_piece-last-requires : goal.last_piece-last-requires
 last_piece-last-requires c =
     let front = fronted c.args.self.now in
-    rw (c.held.ensures.text ∙ c.args.self.now.whole) (record { closed = held_closed text_legible front; some = held_some text_legible front c.requires; low = lit< tt })
+    rw (c.held.ensures.text ∙ c.args.self.now.whole) (record { closed = held_closed text_legible front; some = held_some text_legible front c.requires })
 
 pub overflow_sub-self : goal.overflow_sub-self
 overflow_sub-self c =
