@@ -7,7 +7,7 @@ use Rattle.std.proofs.lemmas.Bool.{and_from, not_from_false, ne_eqb}
 use Rattle.text_store.specs.Bytes.{clean, Closed, lows, PieceFrom}
 
 -- the low bytes are those that a test finds
-pub lows_found : (bound : ℕ) (bytes : List ℕ) → lows bound bytes ≡ count_by (λ b. ltb b bound) bytes
+lows_found : (bound : ℕ) (bytes : List ℕ) → lows bound bytes ≡ count_by (λ b. ltb b bound) bytes
 lows_found bound bytes = is_count_by (lows bound) (λ b. ltb b bound) refl (λ b bs. step (ltb b bound) (lows bound bs)) bytes
   where
     step : (found : Bool) (n : ℕ) → cond found 1 0 + n ≡ cond found (1 + n) n
@@ -16,7 +16,7 @@ lows_found bound bytes = is_count_by (lows bound) (λ b. ltb b bound) refl (λ b
 
 module _ (mark : ℕ) where
   -- behind the last mark no byte is the mark
-  pub clean_behind : (bytes : List ℕ) (start : ℕ) → ((k : ℕ) → start ≤ k → k < length bytes → get_or bytes k 0 ≡ mark → ⊥) → clean mark (drop start bytes) ≡ true
+  clean_behind : (bytes : List ℕ) (start : ℕ) → ((k : ℕ) → start ≤ k → k < length bytes → get_or bytes k 0 ≡ mark → ⊥) → clean mark (drop start bytes) ≡ true
   clean_behind [] zero h = refl
   clean_behind [] (suc start) h = refl
   clean_behind (b ∷ bytes) zero h =
@@ -24,7 +24,7 @@ module _ (mark : ℕ) where
   clean_behind (b ∷ bytes) (suc start) h = clean_behind bytes start (λ k l m. h (suc k) (omega arith) (omega arith))
 
   -- before them stands the mark, or nothing
-  pub closed_before : (bytes : List ℕ) (start : ℕ) → start ≤ length bytes → (0 < start → get_or bytes (start - 1) 0 ≡ mark) → Closed mark (take start bytes)
+  closed_before : (bytes : List ℕ) (start : ℕ) → start ≤ length bytes → (0 < start → get_or bytes (start - 1) 0 ≡ mark) → Closed mark (take start bytes)
   closed_before bytes zero within h = inl refl
   closed_before bytes (suc start) within h =
       let back : suc start - 1 ≡ start = omega arith in
