@@ -6,7 +6,7 @@ ghost use Rattle.encodings.specs.Names.{meaning_of};
 ghost use Rattle.rows.specs.Rows.{step_of};
 ghost use Rattle.text_store.specs.Texts.{text_clauses};
 ghost use Rattle.text_store.specs.ByteStores.{byte_empty};
-ghost use Rattle.text_store.specs.TextStores.{text_terms, contents_of, terms_of};
+ghost use Rattle.text_store.specs.TextStores.{text_terms, terms_of};
 ghost use Rattle.workbook.specs.Books.{state_of};
 ghost use Rattle.reader.specs.Program.{steps_in, refused_lines, header, buffer, translated, no_text, by_first, output};
 ghost use Rattle.parser.specs.Said.{said_of};
@@ -57,7 +57,7 @@ fn print_row<M: Mapping + Drop>(
     lines: &[Line],
     answers: &[Answer],
 ) -> Result<Vec<u8>, AllocError>
-    ensures { IfOk result (λ v. v.items ≡ refused_lines 2 (map said_of lines.now) answers.now ++ (header (state_of contents_of row.workbook).page.total row.clauses ++ text_clauses (state_of contents_of row.workbook).contents.list)) }
+    ensures { IfOk result (λ v. v.items ≡ refused_lines 2 (map said_of lines.now) answers.now ++ (header (state_of (λ s. s) row.workbook).page.total row.clauses ++ text_clauses (state_of (λ s. s) row.workbook).contents.list)) }
 {
     let Row { workbook, clauses } = row;
     let booleans = workbook.booleans();
@@ -74,7 +74,7 @@ fn print_row<M: Mapping + Drop>(
 
 // An empty text store.
 fn make_store(heap: Global) -> Result<TextStore, AllocError>
-    ensures { IfOk result (λ s. (contents_of s ≡ byte_empty buffer) × (terms_of s ≡ text_terms 32768)) }
+    ensures { IfOk result (λ s. (s ≡ byte_empty buffer) × (terms_of s ≡ text_terms 32768)) }
 {
     let bytes = vec![in heap; 0u8; STORE_BYTES]?;
     Ok(TextStore::new(bytes))

@@ -1,31 +1,27 @@
--- The first literal that does not fit, found literal by literal. Assumes nothing.
-use Rattle.std.proofs.Common.{◌≡◌, ℕ, ◌+◌, ◌<◌, ◌≤◌, true, false, leb, ◌⊎◌, [], ◌∷◌, length, get_or, drop, ℤ, pos, negsuc, nat_abs, Some, None, Ok, sym, refl, ap, ◌∙◌, inl, inr, ⊎_elim, arith}
-use Rattle.std.proofs.lemmas.List.{at_drop_more}
-use Rattle.std.proofs.lemmas.Bool.{and_from, and_left, and_right, le-leb, lt-leb, cond-true, cond-false, cases_Bool}
-use Rattle.formula.specs.Boolean.{Clause, number, words}
+-- The first literal that does not fit, and what a store answers to it. Assumes nothing.
+use Rattle.std.proofs.Common.{◌≡◌, ℕ, ◌≤◌, Bool, true, false, cond, not, leb, [], ◌∷◌, ℤ, pos, negsuc, nat_abs, Some, None, Option, Ok, Err, sym, refl, ap, ◌∙◌, ⊎_elim, arith}
+use Rattle.std.specs.List.{find}
+use Rattle.std.specs.Option.{option_map}
+use Rattle.std.proofs.lemmas.Bool.{and_from, leb-true, cond-true, cond-false, cases_Bool}
+use Rattle.formula.specs.Boolean.{Clause, number}
 use Rattle.formula.specs.Tests.{every}
-use Rattle.store.specs.Stores.{Terms, Contents, fits, unfit, words_left, answer_by, put_answer}
+use Rattle.store.specs.Stores.{Terms, Contents, fits, unfit, words_left, words_answer}
+use Rattle.store.specs.declared.StoreFault.{StoreFault}
+use Rattle.text_store.specs.ByteStores.{numbers_answer}
 
-pub number_is : (l : ℤ) → number l ≡ nat_abs l
+number_is : (l : ℤ) → number l ≡ nat_abs l
 number_is (pos n) = refl
 number_is (negsuc n) = refl
 
 module _ (largest : ℕ) where
-  pub fits_from : (l : ℤ) → 1 ≤ nat_abs l → nat_abs l ≤ largest → fits largest l ≡ true
-  fits_from l h k = rw (number_is l) (and_from (leb 1 (nat_abs l)) (leb (nat_abs l) largest) (le-leb 1 (nat_abs l) h) (le-leb (nat_abs l) largest k))
-
-  pub fits_not : (l : ℤ) → (nat_abs l ≡ 0) ⊎ (largest < nat_abs l) → fits largest l ≡ false
-  fits_not l (inl h) = rw (number_is l) (and_left (leb 1 (nat_abs l)) (leb (nat_abs l) largest) (lt-leb 1 (nat_abs l) (omega arith)))
-  fits_not l (inr h) = rw (number_is l) (and_right (leb 1 (nat_abs l)) (leb (nat_abs l) largest) (lt-leb (nat_abs l) largest h))
-
-  -- a literal that fits is passed by, one that does not is found
-  pub unfit_next : (c : Clause) (i : ℕ) → i < length c → fits largest (get_or c i (pos 0)) ≡ true → unfit largest (drop (i + 1) c) ≡ unfit largest (drop i c)
-  unfit_next c i h k =
-      sym (cond-true (fits largest (get_or c i (pos 0))) _ _ k) ∙ sym (at_drop_more (unfit largest) c i (pos 0) h)
-
-  pub unfit_here : (c : Clause) (i : ℕ) → i < length c → fits largest (get_or c i (pos 0)) ≡ false → unfit largest (drop i c) ≡ Some (nat_abs (get_or c i (pos 0)))
-  unfit_here c i h k =
-      at_drop_more (unfit largest) c i (pos 0) h ∙ cond-false (fits largest (get_or c i (pos 0))) _ _ k ∙ ap Some (number_is (get_or c i (pos 0)))
+  -- the first literal that does not fit has the number that the store refuses
+  pub unfit_found : (c : Clause) → unfit largest c ≡ option_map nat_abs (find (λ l. not (fits largest l)) c)
+  unfit_found [] = refl
+  unfit_found (l ∷ c) = step (fits largest l) l (find (λ x. not (fits largest x)) c) (number_is l) (unfit_found c)
+    where
+      step : {n : ℕ} {rest : Option ℕ} (b : Bool) (x : ℤ) (found : Option ℤ) → n ≡ nat_abs x → rest ≡ option_map nat_abs found → cond b rest (Some n) ≡ option_map nat_abs (cond (not b) (Some x) found)
+      step true x found h k = k
+      step false x found h k = ap Some h
 
   pub unfit_none : (c : Clause) → unfit largest c ≡ None → every (fits largest) c ≡ true
   unfit_none [] h = refl
@@ -35,6 +31,15 @@ module _ (largest : ℕ) where
       (λ f. let found = sym (cond-false (fits largest l) (unfit largest c) (Some (number l)) f) in let clash : ◌≡◌ {A = ℕ} 0 1 = cc in absurd (omega arith))
       (cases_Bool (fits largest l))
 
--- a clause that fits, and whose words do not pass those left, is taken
-pub put_taken : {Cell : Type 0} (T : Terms Cell) (K : Contents Cell) (c : Clause) → unfit T.largest c ≡ None → words c ≤ words_left T K → put_answer T K c ≡ Ok tt
-put_taken T K c h k = ap (answer_by T K c) h ∙ cond-true (leb (words c) (words_left T K)) _ _ (le-leb (words c) (words_left T K) k)
+-- where the numbers of a clause are taken, all of its literals fit
+pub numbers_taken : (found : Option ℕ) → Ok tt ≡ numbers_answer found → found ≡ None
+numbers_taken None h = refl
+numbers_taken (Some n) h = cc
+
+-- where words are taken, they do not pass those left
+pub words_taken : {Cell : Type 0} (T : Terms Cell) (K : Contents Cell) (n : ℕ) → Ok tt ≡ words_answer T K n → n ≤ words_left T K
+words_taken T K n h = leb-true n (words_left T K) (passed _ (leb n (words_left T K)) h)
+  where
+    passed : (d : StoreFault) (b : Bool) → Ok (tt {0}) ≡ cond b (Ok (tt {0})) (Err d) → b ≡ true
+    passed d true k = refl
+    passed d false k = cc

@@ -5,9 +5,9 @@ use native.Mathlib.Nat.{mul-div-le}
 use Rattle.std.proofs.lemmas.List.{length-take-le, take-take}
 use Rattle.formula.specs.Boolean.{Clause, words, words_of}
 use Rattle.store.specs.Stores.{after_cut, appended}
-use Rattle.text_store.specs.Bytes.{Closed, PieceFrom, Wrote, at_place}
+use Rattle.text_store.specs.Bytes.{Closed, PieceFrom, at_place}
 use Rattle.text_store.specs.ByteStores.{fit_clause, byte_capacity, byte_terms, byte_contents, StandsFor}
-use Rattle.text_store.proofs.Lines.{lines, read_lines, Legible, Holds, closed_lines, lines_long, words_long, lines_short, same_clauses, list_is, holds_read, holds_put, holds_cut}
+use Rattle.text_store.proofs.Lines.{lines, read_lines, Legible, Holds, words_long, lines_short, same_clauses, list_is, holds_read, holds_put, holds_cut}
 use Rattle.text_store.proofs.Places.{length_at_place, take_at_place}
 
 -- the first bytes of the buffer are the lines of the clauses that they stand for, and the counts of them are right
@@ -21,13 +21,6 @@ module _ {line : Clause → List ℕ} {mark bound most : ℕ} {read : List ℕ �
     text = sym front.text.whole;
     only = λ ds h e. same_clauses legible ds (read_lines mark read (take held memory)) h front.text.fit_all (e ∙ sym front.text.whole);
   }
-
-  pub held_closed : Closed mark (take held memory)
-  held_closed = subst (Closed mark) front.text.whole (closed_lines line mark (read_lines mark read (take held memory)))
-
-  pub held_some : 0 < count → 0 < length (take held memory)
-  held_some some =
-      omega (arith, front.text.count_is, lines_long line mark (read_lines mark read (take held memory)), ap length front.text.whole)
 
   -- the lines end where the held bytes end
   held_is : length (lines line mark (read_lines mark read (take held memory))) ≡ held
@@ -66,13 +59,13 @@ module _ {line : Clause → List ℕ} {mark bound most : ℕ} {read : List ℕ �
     put_count =
         omega (arith, front.text.count_is, front.text.words_are, words_long (read_lines mark read (take held memory)))
 
-    module _ (end : ℕ) (after : List ℕ) (wrote : Wrote held (line c ++ mark ∷ []) memory end after) where
-      pub put_long : length after ≡ length memory
-      put_long = ap length wrote.after_is ∙ length_at_place held (line c ++ mark ∷ []) memory put_within
+    module _ (end : ℕ) (after : List ℕ) (end_is : end ≡ held + length (line c ++ mark ∷ [])) (after_is : after ≡ at_place held (line c ++ mark ∷ []) memory) where
+      put_long : length after ≡ length memory
+      put_long = ap length after_is ∙ length_at_place held (line c ++ mark ∷ []) memory put_within
 
       longer : take end after ≡ take held memory ++ (line c ++ mark ∷ [])
       longer =
-          ap₂ take wrote.end_is wrote.after_is ∙ take_at_place held (line c ++ mark ∷ []) memory front.within
+          ap₂ take end_is after_is ∙ take_at_place held (line c ++ mark ∷ []) memory front.within
 
       more : Holds line mark fit_clause (read_lines mark read (take held memory) ++ c ∷ []) (take end after) (word_count + words c) (count + 1)
       more =
@@ -80,9 +73,9 @@ module _ {line : Clause → List ℕ} {mark bound most : ℕ} {read : List ℕ �
           (sym longer) (holds_put legible front.text c fit)
 
       pub put_front : Fronted line mark read after end (word_count + words c) (count + 1)
-      put_front = let h = put_within in let l = put_long in record { within = omega (arith, wrote.end_is); text = holds_read legible more }
+      put_front = let h = put_within in let l = put_long in record { within = omega arith; text = holds_read legible more }
 
       pub put_contents : byte_contents (read_lines mark read) after end ≡ appended (byte_terms (λ d. line d ++ mark ∷ []) most (length memory)) (byte_contents (read_lines mark read) memory held) c
       put_contents =
-          let place = wrote.after_is ∙ ap (λ n. at_place n (line c ++ mark ∷ []) memory) (sym held_is) in
+          let place = after_is ∙ ap (λ n. at_place n (line c ++ mark ∷ []) memory) (sym held_is) in
           ap₂ (λ cs bytes. record { list = cs; raw = cs; memory = bytes }) (list_is legible more) place

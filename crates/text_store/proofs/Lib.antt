@@ -1,6 +1,5 @@
 pub mod Backwards
 pub mod Cuts
-pub mod Figures
 pub mod Fits
 pub mod Fronts
 pub mod Held
@@ -9,4 +8,3 @@ pub mod Lines
 pub mod Literals
 pub mod Marks
 pub mod Places
-pub mod Rows

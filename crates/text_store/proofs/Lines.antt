@@ -2,14 +2,13 @@
 -- A way of writing clauses is any that is legible; nothing else is assumed.
 use Rattle.std.proofs.Common.{◌≡◌, ℕ, ◌+◌, ◌-◌, ◌*◌, ◌<◌, ◌≤◌, Bool, true, List, [], ◌∷◌, ◌++◌, map, length, get_or, take, sym, refl, ap, ◌∙◌, subst, inl, inr, append_assoc, append-nil, arith, length-append}
 use Rattle.std.specs.List.{flat_map}
-use Rattle.std.proofs.lemmas.List.{append_cancel_left, append_cancel_right, length_push, length-take-le, take_all, take_more}
+use Rattle.std.proofs.lemmas.List.{append_cancel_left, append_cancel_right, flat_map_more, length_push, length-take-le, take_all, take_more}
 use Rattle.std.proofs.lemmas.Bool.{and_parts}
 use Rattle.formula.specs.Boolean.{Clause, words, words_of}
 use Rattle.formula.specs.Tests.{every}
 use Rattle.text_store.specs.Bytes.{pieces, clean, Closed, lows, PieceFrom}
 use Rattle.text_store.proofs.Literals.{length_joined_le}
 use Rattle.text_store.proofs.Marks.{pieces_joined, same_front}
-use Rattle.text_store.proofs.Rows.{joined_push}
 use Rattle.formula.proofs.Tests.{every_push, every_parts, every_weaker, map_back, sum_push}
 
 -- clauses as lines
@@ -53,7 +52,7 @@ words_long [] = omega arith
 words_long (c ∷ cs) = let more = words_long cs in omega arith
 
 module _ {line : Clause → List ℕ} {mark bound most : ℕ} {read : List ℕ → Clause} {fit : Clause → Bool} (legible : Legible line mark bound most read fit) where
-  pub round_trip : (cs : List Clause) → every fit cs ≡ true → read_lines mark read (lines line mark cs) ≡ cs
+  round_trip : (cs : List Clause) → every fit cs ≡ true → read_lines mark read (lines line mark cs) ≡ cs
   round_trip cs h =
       let cut = pieces_joined mark line cs [] (every_weaker fit (λ c. clean mark (line c)) legible.unmarked cs h) in
       ap (map read) (ap (pieces mark) (sym (append-nil (lines line mark cs))) ∙ cut ∙ append-nil (map line cs)) ∙ map_back fit line read legible.read_back cs h
@@ -68,7 +67,7 @@ module _ {line : Clause → List ℕ} {mark bound most : ℕ} {read : List ℕ �
   -- the last line begins where the unmarked bytes before the last mark begin
   last_line : (cs : List Clause) (c : Clause) (front piece : List ℕ) → fit c ≡ true → Closed mark front → clean mark piece ≡ true → front ++ (piece ++ mark ∷ []) ≡ lines line mark (cs ++ c ∷ []) → (front ≡ lines line mark cs) × (piece ≡ line c)
   last_line cs c front piece h closed unmarked e =
-      let both = append_assoc front piece (mark ∷ []) ∙ e ∙ joined_push (λ d. line d ++ mark ∷ []) cs c ∙ sym (append_assoc (lines line mark cs) (line c) (mark ∷ [])) in
+      let both = append_assoc front piece (mark ∷ []) ∙ e ∙ sym (flat_map_more (λ d. line d ++ mark ∷ []) [] cs c) ∙ sym (append_assoc (lines line mark cs) (line c) (mark ∷ [])) in
       let same = append_cancel_right (front ++ piece) (lines line mark cs ++ line c) (mark ∷ []) both in
       let begin = same_front mark front (lines line mark cs) piece (line c) closed (closed_lines line mark cs) unmarked (legible.unmarked c h) same in
       (begin, append_cancel_left (lines line mark cs) piece (line c) (ap (λ bs. bs ++ piece) (sym begin) ∙ same))
@@ -84,7 +83,7 @@ module _ {line : Clause → List ℕ} {mark bound most : ℕ} {read : List ℕ �
     -- a clause more
     pub holds_put : (c : Clause) → fit c ≡ true → Holds line mark fit (cs ++ c ∷ []) (bytes ++ (line c ++ mark ∷ [])) (word_count + words c) (count + 1)
     holds_put c h = record {
-      whole = joined_push (λ d. line d ++ mark ∷ []) cs c ∙ ap (λ bs. bs ++ (line c ++ mark ∷ [])) holds.whole;
+      whole = sym (flat_map_more (λ d. line d ++ mark ∷ []) [] cs c) ∙ ap (λ bs. bs ++ (line c ++ mark ∷ [])) holds.whole;
       fit_all = every_push fit cs c holds.fit_all h;
       words_are = let more = sum_push words cs c in omega (arith, holds.words_are);
       count_is = let more = length_push cs c in omega (arith, holds.count_is);

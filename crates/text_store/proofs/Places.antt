@@ -1,24 +1,45 @@
--- Writes at a place, one behind the other. Assumes nothing.
-use Rattle.std.proofs.Common.{◌≡◌, ℕ, ◌+◌, ◌<◌, ◌≤◌, List, [], ◌∷◌, ◌++◌, length, take, drop, set, sym, refl, ap, ◌∙◌, add-zero, add-one, arith, length-append, take-append-drop}
+-- Writes at the front of a buffer and at a place. Assumes nothing.
+use Rattle.std.proofs.Common.{◌≡◌, ℕ, suc, ◌+◌, ◌-◌, ◌<◌, ◌≤◌, List, [], ◌∷◌, ◌++◌, length, take, drop, set, sym, refl, ap, ◌∙◌, append_assoc, append-nil, add-one, arith, length-drop, drop-cons}
+use borrow.Rule.Slice.PartMut.{put_mid, post_of}
+use Rattle.std.proofs.Math.ListN.{drop_of_length-le}
 use lib.Seq.{paste}
-use Rattle.std.proofs.lemmas.List.Edits.{paste_all, paste-paste, take-paste, length-paste}
-use Rattle.std.proofs.lemmas.List.{set_split, take_all}
-use Rattle.text_store.specs.Bytes.{at_place, Wrote}
+use Rattle.std.proofs.Math.Seq.{set-append_seam}
+use Rattle.std.proofs.lemmas.List.Edits.{paste_all, take-paste, length-paste}
+use Rattle.std.proofs.lemmas.List.{length_push, drop-drop, take_all}
+use Rattle.text_store.specs.Bytes.{at_place, WroteFront}
+
+-- bytes are there, and one more is put behind them
+pub wrote_push : (xs : List ℕ) (b : ℕ) (buffer : List ℕ) → length xs < length buffer → WroteFront (xs ++ b ∷ []) buffer (length xs + 1) (set (xs ++ drop (length xs) buffer) (length xs) b)
+wrote_push xs b buffer h =
+    let more : suc (length xs) ≡ length (xs ++ b ∷ []) = sym (add-one (length xs)) ∙ sym (length_push xs b) in
+    record {
+      count_is = sym (length_push xs b);
+      after_is = ap (λ rest. set (xs ++ rest) (length xs) b) (drop-cons buffer (length xs) 0 h)
+          ∙ set-append_seam xs _ (drop (suc (length xs)) buffer) b
+          ∙ sym (append_assoc xs (b ∷ []) (drop (suc (length xs)) buffer))
+          ∙ ap (λ n. (xs ++ b ∷ []) ++ drop n buffer) more;
+    }
+
+module _ (place : ℕ) (buffer : List ℕ) where
+  -- all that stands behind the place
+  behind : take (length buffer - place) (drop place buffer) ≡ drop place buffer
+  behind = let long = length-drop place buffer in take_all (length buffer - place) (drop place buffer) (omega arith)
+
+  pub room_behind : (n : ℕ) → place + n ≤ length buffer → n ≤ length (take (length buffer - place) (drop place buffer))
+  room_behind n h = rw behind (omega (arith, length-drop place buffer))
+
+  -- a write at the front of it is one at the place
+  pub written_behind : (bytes : List ℕ) {count : ℕ} {tail : List ℕ} → WroteFront bytes (take (length buffer - place) (drop place buffer)) count tail → put_mid place (length buffer - place) buffer tail ≡ at_place place bytes buffer
+  written_behind bytes {count} {tail} wrote =
+      let long = length-drop place buffer in
+      let none : post_of place (length buffer - place) buffer ≡ [] = drop_of_length-le (drop place buffer) (omega arith) in
+      ap (λ end. take place buffer ++ (tail ++ end)) none
+      ∙ ap (λ end. take place buffer ++ end) (append-nil tail ∙ wrote.after_is ∙ ap (λ rest. bytes ++ drop (length bytes) rest) behind)
+      ∙ ap (λ rest. take place buffer ++ (bytes ++ rest)) (drop-drop (length bytes) place buffer)
 
 -- a write is a copy of all of its bytes
 as_paste : (place : ℕ) (bytes buffer : List ℕ) → paste buffer place bytes (length bytes) ≡ at_place place bytes buffer
 as_paste place bytes buffer = paste_all buffer place bytes (length bytes) refl
-
-pub write_nothing : (place : ℕ) (buffer : List ℕ) → at_place place [] buffer ≡ buffer
-write_nothing place buffer = ap (λ n. take place buffer ++ drop n buffer) (add-zero place) ∙ take-append-drop place buffer
-
-pub write_behind : (place : ℕ) (xs ys buffer : List ℕ) → place ≤ length buffer → at_place (place + length xs) ys (at_place place xs buffer) ≡ at_place place (xs ++ ys) buffer
-write_behind place xs ys buffer h =
-    sym (as_paste (place + length xs) ys (at_place place xs buffer))
-    ∙ ap (λ b. paste b (place + length xs) ys (length ys)) (sym (as_paste place xs buffer))
-    ∙ paste-paste buffer place xs ys (length xs) (length ys) refl refl h
-    ∙ ap (paste buffer place (xs ++ ys)) (sym (length-append xs ys))
-    ∙ as_paste place (xs ++ ys) buffer
 
 pub length_at_place : (place : ℕ) (bytes buffer : List ℕ) → place + length bytes ≤ length buffer → length (at_place place bytes buffer) ≡ length buffer
 length_at_place place bytes buffer h =
@@ -29,25 +50,3 @@ take_at_place place bytes buffer h =
     ap (take (place + length bytes)) (sym (as_paste place bytes buffer))
     ∙ take-paste buffer place bytes (length bytes) h (omega arith)
     ∙ ap (λ xs. take place buffer ++ xs) (take_all (length bytes) bytes (omega arith))
-
--- nothing is written yet
-pub wrote_none : (place : ℕ) (buffer : List ℕ) → Wrote place [] buffer place buffer
-wrote_none place buffer = record { end_is = sym (add-zero place); after_is = sym (write_nothing place buffer) }
-
--- one byte
-pub wrote_byte : (place b : ℕ) (buffer : List ℕ) → place < length buffer → Wrote place (b ∷ []) buffer (place + 1) (set buffer place b)
-wrote_byte place b buffer h = record { end_is = refl; after_is = rw add-one (set_split buffer place b h) }
-
--- more bytes behind those written
-pub wrote_then : {place middle end : ℕ} {xs ys before between after : List ℕ} → place ≤ length before → Wrote place xs before middle between → Wrote middle ys between end after → Wrote place (xs ++ ys) before end after
-wrote_then {place} {middle} {end} {xs} {ys} {before} {between} {after} h p q = record {
-  end_is = q.end_is ∙ ap (λ n. n + length ys) p.end_is ∙ simp length-append (omega arith);
-  after_is = q.after_is ∙ ap (λ n. at_place n ys between) p.end_is ∙ ap (at_place (place + length xs) ys) p.after_is ∙ write_behind place xs ys before h;
-}
-
--- what is left of the bytes to write stays within the buffer
-pub wrote_within : {place end : ℕ} {xs before after : List ℕ} (ys : List ℕ) → Wrote place xs before end after → place + length (xs ++ ys) ≤ length before → end + length ys ≤ length after
-wrote_within {place} {end} {xs} {before} {after} ys w h =
-    let whole = length-append xs ys in
-    let long = ap length w.after_is ∙ length_at_place place xs before (omega arith) in
-    omega (arith, w.end_is)

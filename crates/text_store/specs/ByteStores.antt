@@ -1,10 +1,12 @@
 -- A store that holds clauses as bytes, in any way of writing them. Assumes nothing.
-use Rattle.std.specs.Prelude.{◌≡◌, ℕ, ◌/◌, min, Bool, true, List, [], length, take}
+use Rattle.std.specs.Prelude.{◌≡◌, ℕ, ◌/◌, min, Bool, true, List, [], length, take, Some, None, Ok, Err, Option, Result}
 use Rattle.std.proofs.Common.{le_trans, lit≤}
 use Rattle.std.proofs.Math.Nat.{min-le_right}
 use Rattle.std.specs.List.{flat_map}
 use Rattle.formula.specs.Boolean.{Clause}
 use Rattle.formula.specs.Tests.{every}
+use Rattle.store.specs.declared.StoreFault.{StoreFault}
+use Rattle.store.specs.declared.StoreFault.TheVariants.{NumbersSpent}
 use Rattle.store.specs.Stores.{Terms, Bounded, Contents, fits}
 use Rattle.text_store.specs.Bytes.{at_place}
 
@@ -15,6 +17,11 @@ byte_largest = 1048575
 -- every literal of a clause fits
 abbrev pub fit_clause : Clause → Bool
 fit_clause c = every (fits byte_largest) c
+
+-- the answer to a clause whose first literal that does not fit has this number
+abbrev pub numbers_answer : Option ℕ → Result (Unit {0}) StoreFault
+numbers_answer None = Ok tt
+numbers_answer (Some n) = Err (NumbersSpent (record { first = n; second = byte_largest }))
 
 -- a buffer's capacity where a word takes at most so many bytes: never over 2^24 words
 abbrev pub byte_capacity : ℕ → ℕ → ℕ

@@ -6,10 +6,10 @@ use Rattle.formula.specs.Tests.{every, sum_of}
 abbrev pub at_place : ℕ → List ℕ → List ℕ → List ℕ
 at_place place bytes buffer = take place buffer ++ (bytes ++ drop (place + length bytes) buffer)
 
--- bytes were written from a place on: where they end, and the buffer afterwards
-pub record Wrote (place : ℕ) (bytes before : List ℕ) (end : ℕ) (after : List ℕ) : Type 0 where
-  pub end_is : end ≡ place + length bytes
-  pub after_is : after ≡ at_place place bytes before
+-- bytes were written at the front of a buffer: how many they are, and the buffer afterwards
+pub record WroteFront (bytes before : List ℕ) (count : ℕ) (after : List ℕ) : Type 0 where
+  pub count_is : count ≡ length bytes
+  pub after_is : after ≡ bytes ++ drop (length bytes) before
 
 -- a byte more in front of the first piece
 abbrev pub onto : ℕ → List (List ℕ) → List (List ℕ)

@@ -1,29 +1,41 @@
 // Finds the last of the pieces that a mark ends.
-ghost use Rattle.std.specs.Prelude.{◌<◌, length, take};
-ghost use Rattle.text_store.specs.Bytes.{Closed, PieceFrom};
+ghost use Rattle.std.specs.Prelude.{ℕ, ◌≡◌, ◌≢◌, ◌-◌, ◌<◌, ◌≤◌, nat_lt, length, take, count_by, slice_index};
+ghost use Rattle.text_store.specs.Bytes.{Closed, PieceFrom, lows};
 
 // The last piece of bytes: where it begins, and how many of its bytes are below a bound.
 #[derive(Clone, Copy)]
-pub struct Piece {
-    pub start: usize,
-    pub lows: u64,
+pub(crate) struct Piece {
+    pub(crate) start: usize,
+    pub(crate) lows: u64,
 }
 
-// Goes back from the mark at the end to the mark before it, or to the start.
+// Where the bytes behind the last mark begin.
+fn behind_last(bytes: &[u8], mark: u8) -> usize
+    ensures within { result ≤ length bytes.now }
+    ensures unmarked { (k : ℕ) → result ≤ k → k < length bytes.now → slice_index bytes.now k ≢ mark }
+    ensures marked { 0 < result → slice_index bytes.now (result - 1) ≡ mark }
+{
+    bytes
+        .iter()
+        .rposition(|byte| *byte == mark)
+        .map_or(0, |at| at + 1)
+}
+
+// How many bytes are below a bound.
+fn count_lows(bytes: &[u8], bound: u8) -> usize
+    ensures { result ≡ count_by (λ b. nat_lt b bound) bytes.now }
+{
+    bytes.iter().filter(|byte| **byte < bound).count()
+}
+
+// It begins behind the mark before the one at the end, or at the start.
 pub(crate) fn last_piece(bytes: &[u8], mark: u8, bound: u8) -> Piece
     requires closed { Closed mark bytes.now }
     requires some { 0 < length bytes.now }
-    requires low { mark < bound }
     ensures piece { PieceFrom mark bound bytes.now result.start result.lows }
     ensures before { Closed mark (take result.start bytes.now) }
 {
-    let mut start = bytes.len() - 1;
-    let mut lows = 1;
-    while start > 0 && bytes[start - 1] != mark {
-        start -= 1;
-        if bytes[start] < bound {
-            lows += 1;
-        }
-    }
+    let start = behind_last(&bytes[..bytes.len() - 1], mark);
+    let lows = count_lows(&bytes[start..], bound) as u64;
     Piece { start, lows }
 }

@@ -1,34 +1,47 @@
-use Rattle.std.proofs.Common.{take, vec_items, refl, ◌∙◌, lit<}
+use Rattle.std.proofs.Common.{◌≡◌, ◌-◌, ◌<◌, length, take, ap, ◌∙◌, arith}
+use Rattle.store.specs.Stores.{after_cut}
 use Rattle.text_store.specs.Bytes.{Closed, PieceFrom}
-use Rattle.text_store.proofs.Fronts.{fronted}
-use Rattle.text_store.proofs.Held.{held_closed, held_some, cut_words, cut_front, cut_contents}
+use Rattle.text_store.specs.ByteStores.{byte_contents}
+use Rattle.text_store.specs.Texts.{text_line, text_list}
+use Rattle.text_store.proofs.Fronts.{fronted, kept}
+use Rattle.text_store.proofs.Held.{cut_words, cut_front, cut_contents}
 use Rattle.text_store.proofs.Legibility.{text_legible}
+use Rattle.text_store.proofs.Lines.{closed_lines, lines_long}
 use Rattle.text_store.proofs.text_store.TextStore.drop_last.Goals as goal
 use Rattle.text_store.proofs.text_store.TextStore.drop_last.Goals.{After-last_piece-last}
 
-piece : (c : After-last_piece-last) → PieceFrom 10 33 (take c.args.self.now.held (vec_items c.args.self.now.bytes)) c.last_piece-last.result.start c.last_piece-last.result.lows
-piece c = rw (c.held.ensures.text ∙ c.args.self.now.whole) at c.last_piece-last.ensures.piece
-
-before : (c : After-last_piece-last) → Closed 10 (take c.last_piece-last.result.start (take c.args.self.now.held (vec_items c.args.self.now.bytes)))
-before c = rw (c.held.ensures.text ∙ c.args.self.now.whole) at c.last_piece-last.ensures.before
-
 pub last_piece-last-requires : goal.last_piece-last-requires
 last_piece-last-requires c =
-    let front = fronted c.args.self.now in
-    rw (c.held.ensures.text ∙ c.args.self.now.whole) (record { closed = held_closed text_legible front; some = held_some text_legible front c.requires; low = lit< tt })
+    let list = c.args.self.now.list in
+    rw c.held.ensures.text (record { closed = closed_lines text_line 10 list; some = omega (arith, c.requires, lines_long text_line 10 list) })
+
+-- the held bytes, as the buffer has them
+held : (c : After-last_piece-last) → c.held.result.now ≡ take c.self.inside.held c.self.inside.bytes.items
+held c = rw (← c.self.view_is) at c.held.ensures.text ∙ c.self.invariant.whole
+
+some : (c : After-last_piece-last) → 0 < c.self.inside.count
+some c = omega (arith, c.requires, ap (λ K. length K.list) c.self.view_is, c.self.invariant.counted)
+
+piece : (c : After-last_piece-last) → PieceFrom 10 33 (take c.self.inside.held c.self.inside.bytes.items) c.last_piece-last.result.start c.last_piece-last.result.lows
+piece c = rw (held c) at c.last_piece-last.ensures.piece
+
+before : (c : After-last_piece-last) → Closed 10 (take c.last_piece-last.result.start (take c.self.inside.held c.self.inside.bytes.items))
+before c = rw (held c) at c.last_piece-last.ensures.before
 
 pub overflow_sub-self : goal.overflow_sub-self
 overflow_sub-self c =
     let at = (goal.at.overflow_sub-self c).After-last_piece-last in
-    cut_words text_legible (fronted c.args.self.now) _ _ c.requires (piece at) (before at)
+    cut_words text_legible (fronted c.self.invariant) _ _ (some at) (piece at) (before at)
 
 pub invariant_of-self : goal.invariant_of-self
 invariant_of-self c =
     let at = (goal.at.invariant_of-self c).After-last_piece-last in
-    let front = cut_front text_legible (fronted c.args.self.now) _ _ c.requires (piece at) (before at) in
-    record { within = front.within; whole = front.text.whole; fit = front.text.fit_all; worded = front.text.words_are; counted = front.text.count_is }
+    kept (cut_front text_legible (fronted c.self.invariant) _ _ (some at) (piece at) (before at))
 
 pub returns : goal.returns
 returns c =
     let at = (goal.at.returns c).After-last_piece-last in
-    record { after = cut_contents text_legible (fronted c.args.self.now) _ _ c.requires (piece at) (before at); count = refl }
+    let K = byte_contents text_list c.self.inside.bytes.items c.self.inside.held in
+    cut_contents text_legible (fronted c.self.invariant) _ _ (some at) (piece at) (before at)
+    ∙ ap (λ n. after_cut (n - 1) K) c.self.invariant.counted
+    ∙ ap (λ J. after_cut (length J.list - 1) J) c.self.view_is

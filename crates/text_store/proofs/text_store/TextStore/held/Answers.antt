@@ -1,4 +1,4 @@
-use Rattle.std.proofs.Common.{take, vec_items, sym, subst}
+use Rattle.std.proofs.Common.{take, sym, ap, subst}
 use Rattle.text_store.specs.ByteStores.{StandsFor}
 use Rattle.text_store.specs.Texts.{text_clause, text_list}
 use Rattle.text_store.proofs.Fronts.{fronted}
@@ -8,5 +8,6 @@ use Rattle.text_store.proofs.text_store.TextStore.held.Goals as goal
 
 pub returns : goal.returns
 returns c =
-    let s = c.args.self.now in
-    subst (λ memory. StandsFor text_clause (take s.held memory) (text_list (take s.held (vec_items s.bytes)))) (sym c.as_slice.ensures.value) (stands_for text_legible (fronted s))
+    let s = c.self.inside in
+    subst (StandsFor text_clause (take s.held c.as_slice.result.now)) (ap (λ K. K.list) c.self.view_is)
+    (subst (λ memory. StandsFor text_clause (take s.held memory) (text_list (take s.held s.bytes.items))) (sym c.as_slice.ensures.value) (stands_for text_legible (fronted c.self.invariant)))
