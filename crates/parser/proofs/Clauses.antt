@@ -1,45 +1,41 @@
 -- The literals of a clause, field by field. Assumes nothing.
-use Rattle.std.proofs.Common.{◌≡◌, ℕ, List, [], ◌∷◌, ◌++◌, Some, None, Option, sym, refl, ap, ◌∙◌, append_assoc, append-nil}
+use Rattle.std.proofs.Common.{◌≡◌, ℕ, ◌+◌, ◌<◌, List, [], ◌∷◌, ◌++◌, length, get_or, drop, Some, None, Option, sym, refl, ap, ◌∙◌, append_assoc, append-nil, arith}
+use Rattle.std.proofs.lemmas.List.{drop_more, drop_all}
 use Rattle.formula.specs.declared.signed.Literal.{Literal}
-use Rattle.parser.specs.Cuts.{given, before, behind, parts}
+use Rattle.parser.specs.Cuts.{given}
 use Rattle.parser.specs.Fields.{literal_of, literals_of}
-use Rattle.parser.specs.Said.{states, unreadable, said_by}
-use Rattle.parser.proofs.Parting.{parts_behind, parts_cut}
 
 -- the literals so far, and those of what is left
-abbrev pub on : List Literal → Option (List Literal) → Option (List Literal)
+abbrev on : List Literal → Option (List Literal) → Option (List Literal)
 on items o = given o (λ ls. Some (items ++ ls))
 
 on_none : (o : Option (List Literal)) → on [] o ≡ o
 on_none None = refl
 on_none (Some ls) = refl
 
-on_more : (items : List Literal) (l : Literal) (o : Option (List Literal)) → on (items ++ l ∷ []) o ≡ on items (given o (λ ls. Some (l ∷ ls)))
+on_more : (items : List Literal) (l : Literal) (o : Option (List Literal)) → on items (given o (λ ls. Some (l ∷ ls))) ≡ on (items ++ l ∷ []) o
 on_more items l None = refl
-on_more items l (Some ls) = ap Some (append_assoc items (l ∷ []) ls)
+on_more items l (Some ls) = ap Some (sym (append_assoc items (l ∷ []) ls))
 
-module _ (fields : List ℕ) where
-  abbrev whole : Option (List Literal)
-  whole = literals_of (parts 32 fields)
+-- the literals of the first i fields and those of the others are all literals
+pub record Reading (fields : List (List ℕ)) (items : List Literal) (i : ℕ) : Type 0 where
+  pub whole : literals_of fields ≡ on items (literals_of (drop i fields))
 
-  -- the literals so far and those of what is left are the whole
-  abbrev pub Reading : List Literal → Option (List ℕ) → Type 0
-  Reading items left = on items (literals_of (parts_behind 32 left)) ≡ whole
+pub reading_none : (fields : List (List ℕ)) (items : List Literal) → items ≡ [] → Reading fields items 0
+reading_none fields items none = record { whole = sym (ap (λ (ls : List Literal). on ls (literals_of fields)) none ∙ on_none (literals_of fields)) }
 
-  pub reading_none : (items : List Literal) → items ≡ [] → Reading items (Some fields)
-  reading_none items is = ap (λ (ls : List Literal). on ls whole) is ∙ on_none whole
+module _ (fields : List (List ℕ)) (items : List Literal) (i : ℕ) (h : Reading fields items i) (field : List ℕ) (within : i < length fields) (here : field ≡ get_or fields i field) where
+  by_field : (o : Option Literal) → o ≡ literal_of field → literals_of fields ≡ on items (given o (λ l. given (literals_of (drop (i + 1) fields)) (λ ls. Some (l ∷ ls))))
+  by_field o is =
+      h.whole ∙ ap (λ (fs : List (List ℕ)). on items (literals_of fs)) (drop_more fields i field within)
+      ∙ (λ j. on items (given (literal_of (sym here j)) (λ l. given (literals_of (drop (i + 1) fields)) (λ ls. Some (l ∷ ls)))))
+      ∙ ap (λ (x : Option Literal). on items (given x (λ l. given (literals_of (drop (i + 1) fields)) (λ ls. Some (l ∷ ls))))) (sym is)
 
-  module _ (items : List Literal) (rest : List ℕ) (h : Reading items (Some rest)) where
-    here : (o : Option Literal) → literal_of (before 32 rest) ≡ o → on items (given o (λ l. given (literals_of (parts_behind 32 (behind 32 rest))) (λ ls. Some (l ∷ ls)))) ≡ whole
-    here o e =
-        ap (λ (x : Option Literal). on items (given x (λ l. given (literals_of (parts_behind 32 (behind 32 rest))) (λ ls. Some (l ∷ ls))))) (sym e)
-        ∙ ap (λ (ps : List (List ℕ)). on items (literals_of ps)) (sym (parts_cut 32 rest)) ∙ h
+  pub reading_more : (l : Literal) → Some l ≡ literal_of field → Reading fields (items ++ l ∷ []) (i + 1)
+  reading_more l is = record { whole = by_field (Some l) is ∙ on_more items l (literals_of (drop (i + 1) fields)) }
 
-    pub reading_more : (l : Literal) → literal_of (before 32 rest) ≡ Some l → Reading (items ++ l ∷ []) (behind 32 rest)
-    reading_more l e = on_more items l (literals_of (parts_behind 32 (behind 32 rest))) ∙ here (Some l) e
+  pub reading_stop : None ≡ literal_of field → None ≡ literals_of fields
+  reading_stop is = sym (by_field None is)
 
-    pub reading_stop : literal_of (before 32 rest) ≡ None → unreadable ≡ said_by states whole
-    reading_stop e = ap (said_by states) (here None e)
-
-  pub reading_all : (items : List Literal) → Reading items None → states items ≡ said_by states whole
-  reading_all items h = ap states (sym (append-nil items)) ∙ ap (said_by states) h
+pub reading_all : (fields : List (List ℕ)) (items : List Literal) (i : ℕ) → Reading fields items i → i ≡ length fields → Some items ≡ literals_of fields
+reading_all fields items i h all = ap Some (sym (append-nil items)) ∙ ap (λ (fs : List (List ℕ)). on items (literals_of fs)) (sym (drop_all i fields (omega arith))) ∙ sym h.whole

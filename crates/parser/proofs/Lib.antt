@@ -1,7 +1,4 @@
-pub mod Clauses
-pub mod Commands
-pub mod Cutting
 pub mod Digits
+pub mod Clauses
 pub mod LineByLine
-pub mod Parting
-pub mod Signed
+pub mod Collected

@@ -1,28 +1,20 @@
 -- Bytes cut at a mark. Assumes nothing.
-use Rattle.std.specs.Prelude.{ℕ, cond, List, [], ◌∷◌, ◌++◌, Some, None, Option, ◌==◌}
+use Rattle.std.specs.Prelude.{ℕ, ◌+◌, List, [], ◌∷◌, Some, None, Option, ◌==◌, take, drop, position}
+use Rattle.std.specs.List.{slice_split}
+use Rattle.std.specs.Option.{option_map}
 
 -- what follows from a value that is there
 abbrev pub given : {X Y : Type 0} → Option X → (X → Option Y) → Option Y
 given None f = None
 given (Some x) f = f x
 
--- the bytes before the first mark, and those behind it where there is one
-abbrev pub before : ℕ → List ℕ → List ℕ
-before mark [] = []
-before mark (b ∷ bs) = cond (b == mark) [] (b ∷ before mark bs)
+-- the bytes before the first mark and those behind it, where there is one
+abbrev pub halves : ℕ → List ℕ → Option (List ℕ × List ℕ)
+halves mark bs = option_map (λ i. (take i bs, drop (i + 1) bs)) (position (λ b. b == mark) bs)
 
-abbrev pub behind : ℕ → List ℕ → Option (List ℕ)
-behind mark [] = None
-behind mark (b ∷ bs) = cond (b == mark) (Some bs) (behind mark bs)
-
--- the parts between marks, of which the first has begun with the bytes of part
-abbrev pub parts_on : ℕ → List ℕ → List ℕ → List (List ℕ)
-parts_on mark part [] = part ∷ []
-parts_on mark part (b ∷ bs) = cond (b == mark) (part ∷ parts_on mark [] bs) (parts_on mark (part ++ b ∷ []) bs)
-
--- all parts: one more than there are marks
+-- all parts between marks: one more than there are marks
 abbrev pub parts : ℕ → List ℕ → List (List ℕ)
-parts mark bs = parts_on mark [] bs
+parts mark bs = slice_split (λ b. b == mark) bs
 
 -- the last part counts only where it has a byte
 abbrev pub closed : List (List ℕ) → List (List ℕ)

@@ -3,7 +3,7 @@ use Rattle.std.specs.Prelude.{ℕ, ◌+◌, ◌-◌, ◌*◌, Bool, cond, ◌&&�
 use Rattle.formula.specs.Signs.{sign_of}
 use Rattle.formula.specs.Tests.{every}
 use Rattle.formula.specs.declared.signed.Literal.{Literal}
-use Rattle.parser.specs.Cuts.{given, before, behind}
+use Rattle.parser.specs.Cuts.{given, halves}
 
 abbrev pub is_digit : ℕ → Bool
 is_digit b = nat_le 48 b && nat_le b 57
@@ -21,7 +21,7 @@ number_of bs = cond (nat_le 1 (length bs) && nat_le (length bs) 5 && every is_di
 abbrev pub literal_of : List ℕ → Option Literal
 literal_of [] = None
 literal_of (b ∷ bs) =
-    given (sign_of b) (λ sign. given (number_of (before 58 bs)) (λ v. given (behind 58 bs) (λ r. given (number_of r) (λ i.
+    given (sign_of b) (λ sign. given (halves 58 bs) (λ h. given (number_of h.0) (λ v. given (number_of h.1) (λ i.
     Some (record { variable = v; value = i; sign = sign })))))
 
 -- every field is a literal

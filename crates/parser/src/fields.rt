@@ -1,49 +1,41 @@
 // Numbers and literals.
 ghost use Rattle.std.specs.Prelude.{◌≡◌};
-ghost use Rattle.parser.specs.Fields.{is_digit, number_of, literal_of};
+ghost use Rattle.std.specs.Option.{option_map};
+ghost use Rattle.parser.specs.Cuts.{halves};
+ghost use Rattle.parser.specs.Fields.{number_of, literal_of};
 
-use crate::cuts::cut_at;
 use formula::{Literal, Sign};
 
 const MOST_DIGITS: usize = 5;
-
-fn is_digit(byte: u8) -> bool
-    ensures { result ≡ is_digit byte }
-{
-    byte >= b'0' && byte <= b'9'
-}
 
 // The number that 1 to 5 digits spell.
 pub(crate) fn read_number(field: &[u8]) -> Option<u32>
     ensures { result ≡ number_of field.now }
 {
-    if field.is_empty() || field.len() > MOST_DIGITS {
+    if field.len() > MOST_DIGITS || !field.iter().all(u8::is_ascii_digit) {
         return None;
     }
-    let mut number = 0u32;
-    for byte in field {
-        if !is_digit(*byte) {
-            return None;
-        }
-        number = number * 10 + (*byte - b'0') as u32;
-    }
-    Some(number)
+    str::from_utf8(field).ok()?.parse().ok()
+}
+
+// The bytes before the first mark and those behind it, where there is one.
+fn split_once(bytes: &[u8], mark: u8) -> Option<(&[u8], &[u8])>
+    ensures { option_map (λ x. (x.0.now, x.1.now)) result ≡ halves mark bytes.now }
+{
+    let place = bytes.iter().position(|byte| *byte == mark)?;
+    Some((&bytes[..place], &bytes[place + 1..]))
 }
 
 // A literal such as +1:2.
 pub(crate) fn read_literal(field: &[u8]) -> Option<Literal>
     ensures { result ≡ literal_of field.now }
 {
-    let [first, rest @ ..] = field else {
-        return None;
-    };
+    let (first, rest) = field.split_first()?;
     let sign = Sign::try_from(*first).ok()?;
-    let halves = cut_at(rest, b':');
-    let variable = read_number(halves.front)?;
-    let value = read_number(halves.rest?)?;
+    let (variable, value) = split_once(rest, b':')?;
     Some(Literal {
-        variable,
-        value,
+        variable: read_number(variable)?,
+        value: read_number(value)?,
         sign,
     })
 }

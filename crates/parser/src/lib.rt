@@ -1,7 +1,6 @@
 // Reads a text into lines, each with what it says.
 #![tactic(auto)]
 
-mod cuts;
 mod fields;
 pub mod lines;
 

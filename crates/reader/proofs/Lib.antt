@@ -1,2 +1,3 @@
+pub mod Picked
 pub mod Rowed
 pub mod Translating

@@ -1,22 +1,21 @@
 // The program: a text in, what is printed out.
-ghost use Rattle.std.specs.Prelude.{◌≡◌, ◌++◌, map, IfOk, vec_len};
-ghost use Rattle.std.specs.List.{flat_map};
-ghost use Rattle.std.specs.Option.{option_to_list};
+ghost use Rattle.std.specs.Prelude.{◌≡◌, ◌++◌, map, IfOk};
+ghost use Rattle.std.specs.Option.{option_map};
 ghost use Rattle.encodings.specs.Names.{meaning_of};
-ghost use Rattle.rows.specs.Rows.{step_of};
 ghost use Rattle.text_store.specs.Texts.{text_clauses};
 ghost use Rattle.text_store.specs.ByteStores.{byte_empty};
 ghost use Rattle.text_store.specs.TextStores.{text_terms, terms_of};
 ghost use Rattle.workbook.specs.Books.{state_of};
-ghost use Rattle.reader.specs.Program.{steps_in, refused_lines, header, buffer, translated, no_text, by_first, output};
+ghost use Rattle.reader.specs.Program.{refused_lines, header, buffer, translated, no_text, by_first, output};
 ghost use Rattle.parser.specs.Said.{said_of};
 
+use crate::calls::list_calls;
 use crate::faults::LineFault;
-use crate::printing::{print_clauses, print_outcome, print_refusals};
+use crate::printing::{print_header, print_refusal, print_refusals};
 use encodings::{FullRegular, Name};
 use mapping::Mapping;
 use parser::{Line, read_lines};
-use rows::{Answer, Call, Row, make_row};
+use rows::{Answer, Row, make_row};
 use std::alloc::{AllocError, Global};
 use text_store::TextStore;
 use workbook::{Parts, Sheet};
@@ -26,38 +25,14 @@ pub const INPUT_BYTES: usize = 16_384;
 
 const STORE_BYTES: usize = 32_768;
 
-// The call of a line, where it makes one.
-fn call_of(line: &Line) -> Option<Call<'_>>
-    ensures { steps_in (said_of line.now) ≡ map step_of (option_to_list result) }
-{
-    match line {
-        Line::Declare(size) => Some(Call::Declare(*size)),
-        Line::State(literals) => Some(Call::State(literals.as_slice())),
-        Line::Mapping(_) | Line::Unreadable => None,
-    }
-}
-
-// The calls of the readable lines, as one row.
-fn list_calls(heap: Global, lines: &[Line]) -> Result<Vec<Call<'_>>, AllocError>
-    ensures { IfOk result (λ v. map step_of v.items ≡ flat_map steps_in (map said_of lines.now)) }
-{
-    let mut calls = Vec::new(heap);
-    for line in lines {
-        if let Some(call) = call_of(line) {
-            calls.push(call)?;
-        }
-    }
-    Ok(calls)
-}
-
 // Prints what is left of a row that has been made.
 fn print_row<M: Mapping + Drop>(
     heap: Global,
     row: Row<M, TextStore>,
-    lines: &[Line],
+    lines: &[Option<Line>],
     answers: &[Answer],
 ) -> Result<Vec<u8>, AllocError>
-    ensures { IfOk result (λ v. v.items ≡ refused_lines 2 (map said_of lines.now) answers.now ++ (header (state_of (λ s. s) row.workbook).page.total row.clauses ++ text_clauses (state_of (λ s. s) row.workbook).contents.list)) }
+    ensures { IfOk result (λ v. v.items ≡ refused_lines 2 (map (option_map said_of) lines.now) answers.now ++ (header (state_of (λ s. s) row.workbook).page.total row.clauses ++ text_clauses (state_of (λ s. s) row.workbook).contents.list)) }
 {
     let Row { workbook, clauses } = row;
     let booleans = workbook.booleans();
@@ -66,9 +41,11 @@ fn print_row<M: Mapping + Drop>(
         store,
         sheet: _,
     } = workbook.finish();
-    let mut out = Vec::new(heap);
-    print_refusals(heap, &mut out, lines, answers)?;
-    print_clauses(heap, &mut out, booleans, clauses, store.held())?;
+    let mut text = String::new(heap);
+    print_refusals(&mut text, lines, answers)?;
+    print_header(&mut text, booleans, clauses)?;
+    let mut out = text.into_bytes();
+    out.extend_from_slice(store.held())?;
     Ok(out)
 }
 
@@ -80,41 +57,33 @@ fn make_store(heap: Global) -> Result<TextStore, AllocError>
     Ok(TextStore::new(bytes))
 }
 
-// Places for so many answers.
-fn make_places(heap: Global, count: usize) -> Result<Vec<Answer>, AllocError>
-    ensures { IfOk result (λ v. vec_len v ≡ count) }
-{
-    vec![in heap; Answer::Number(0); count]
-}
-
 // Translates lines under a mapping: their calls are made as one row on a new workbook over a text store.
 fn translate_lines<M: Mapping + Drop>(
     heap: Global,
     mapping: M,
-    lines: &[Line],
+    lines: &[Option<Line>],
 ) -> Result<Vec<u8>, AllocError>
-    ensures { IfOk result (λ v. v.items ≡ translated M.Mapping.meaning (map said_of lines.now)) }
+    ensures { IfOk result (λ v. v.items ≡ translated M.Mapping.meaning (map (option_map said_of) lines.now)) }
 {
     let calls = list_calls(heap, lines)?;
-    let mut answers = make_places(heap, calls.len())?;
+    let mut answers = vec![in heap; Ok(0); calls.len()]?;
     let store = make_store(heap)?;
     let sheet = Sheet::new(heap)?;
-    match make_row(
+    let row = make_row(
         1,
         mapping,
         store,
         sheet,
         calls.as_slice(),
         answers.as_mut_slice(),
-    ) {
-        Ok(row) => print_row(heap, row, lines, answers.as_slice()),
-        Err(_) => unreachable(),
-    }
+    )
+    .unwrap();
+    print_row(heap, row, lines, answers.as_slice())
 }
 
 // Translates lines under the mapping of a name.
-fn translate_named(heap: Global, name: Name, lines: &[Line]) -> Result<Vec<u8>, AllocError>
-    ensures { IfOk result (λ v. v.items ≡ translated (meaning_of name) (map said_of lines.now)) }
+fn translate_named(heap: Global, name: Name, lines: &[Option<Line>]) -> Result<Vec<u8>, AllocError>
+    ensures { IfOk result (λ v. v.items ≡ translated (meaning_of name) (map (option_map said_of) lines.now)) }
 {
     match name {
         Name::FullRegular => translate_lines(heap, FullRegular, lines),
@@ -125,18 +94,22 @@ fn translate_named(heap: Global, name: Name, lines: &[Line]) -> Result<Vec<u8>, 
 fn refuse_text(heap: Global) -> Result<Vec<u8>, AllocError>
     ensures { IfOk result (λ v. v.items ≡ no_text) }
 {
-    let mut out = Vec::new(heap);
-    print_outcome(heap, &mut out, 1, Err(LineFault::Line))?;
-    Ok(out)
+    let mut text = String::new(heap);
+    print_refusal(&mut text, 1, LineFault::Line)?;
+    Ok(text.into_bytes())
 }
 
 // The first line names the mapping.
-fn translate_from(heap: Global, first: &Line, lines: &[Line]) -> Result<Vec<u8>, AllocError>
-    ensures { IfOk result (λ v. v.items ≡ by_first (said_of first.now) (map said_of lines.now)) }
+fn translate_from(
+    heap: Global,
+    first: &Option<Line>,
+    lines: &[Option<Line>],
+) -> Result<Vec<u8>, AllocError>
+    ensures { IfOk result (λ v. v.items ≡ by_first (option_map said_of first.now) (map (option_map said_of) lines.now)) }
 {
     match first {
-        Line::Mapping(name) => translate_named(heap, *name, lines),
-        Line::Declare(_) | Line::State(_) | Line::Unreadable => refuse_text(heap),
+        Some(Line::Mapping(name)) => translate_named(heap, *name, lines),
+        _ => refuse_text(heap),
     }
 }
 

@@ -1,18 +1,18 @@
 -- Calls made one by one: what is left gives the whole. Assumes nothing.
-use Rattle.std.proofs.Common.{◌≡◌, ℕ, ◌+◌, ◌<◌, ◌≤◌, List, [], ◌∷◌, ◌++◌, map, length, get_or, take, drop, set, sym, refl, ap, ◌∙◌, append_assoc, append-nil, arith, length-set, take-append-drop}
+use Rattle.std.proofs.Common.{◌≡◌, ℕ, ◌+◌, ◌<◌, ◌≤◌, List, [], ◌∷◌, ◌++◌, map, length, get_or, take, drop, set, Result, sym, refl, ap, ◌∙◌, append_assoc, append-nil, arith, length-set, take-append-drop}
 use Rattle.std.proofs.lemmas.List.{drop-map, drop_more, drop_all, length-map, take_more_set, drop-set-lt, drop-drop, length-take-le}
 use Rattle.mapping.specs.Memory.{over}
+use Rattle.workbook.specs.declared.faults.WorkbookFault.{WorkbookFault}
 use Rattle.workbook.specs.States.{Made, State}
-use Rattle.rows.specs.declared.Answer.{Answer}
 use Rattle.rows.specs.declared.Call.{Call}
-use Rattle.rows.specs.Rows.{Step, step_of, answer_to, answer_of, after_step, row_answers, after_row}
+use Rattle.rows.specs.Rows.{Step, step_of, answer_to, after_step, row_answers, after_row}
 
-module _ {Cell : Type 0} (D : Made Cell) (s₀ : State Cell) (row : List Call) (before : List Answer) where
+module _ {Cell : Type 0} (D : Made Cell) (s₀ : State Cell) (row : List Call) (before : List (Result ℕ WorkbookFault)) where
   abbrev steps : List Step
   steps = map step_of row
 
   -- the first i calls are made
-  pub record Going (D' : Made Cell) (s : State Cell) (answers : List Answer) (i : ℕ) : Type 0 where
+  pub record Going (D' : Made Cell) (s : State Cell) (answers : List (Result ℕ WorkbookFault)) (i : ℕ) : Type 0 where
     pub made : D' ≡ D
     pub front : take i answers ++ row_answers D s (drop i steps) ≡ row_answers D s₀ steps
     pub back : drop i answers ≡ drop i before
@@ -22,14 +22,14 @@ module _ {Cell : Type 0} (D : Made Cell) (s₀ : State Cell) (row : List Call) (
   pub going_none : Going D s₀ before 0
   going_none = record { made = refl; front = refl; back = refl; after = refl; long = refl }
 
-  module _ (D' : Made Cell) (s : State Cell) (answers : List Answer) (i : ℕ) (h : Going D' s answers i) where
-    pub going_more : (d : Call) (a : Answer) (s' : State Cell) (D'' : Made Cell) → i < length row → i < length before →
-        a ≡ answer_of (answer_to D' s (step_of (get_or row i d))) → s' ≡ after_step D' s (step_of (get_or row i d)) → D'' ≡ D' →
+  module _ (D' : Made Cell) (s : State Cell) (answers : List (Result ℕ WorkbookFault)) (i : ℕ) (h : Going D' s answers i) where
+    pub going_more : (d : Call) (a : Result ℕ WorkbookFault) (s' : State Cell) (D'' : Made Cell) → i < length row → i < length before →
+        a ≡ answer_to D' s (step_of (get_or row i d)) → s' ≡ after_step D' s (step_of (get_or row i d)) → D'' ≡ D' →
         Going D'' s' (set answers i a) (i + 1)
     going_more d a s' D'' within below said left same =
         let call = step_of (get_or row i d) in
         let rest : drop i steps ≡ call ∷ drop (i + 1) steps = drop-map step_of i row ∙ ap (map step_of) (drop_more row i d within) ∙ ap (λ xs. call ∷ xs) (sym (drop-map step_of (i + 1) row)) in
-        let a-is : a ≡ answer_of (answer_to D s call) = said ∙ ap (λ (x : Made Cell). answer_of (answer_to x s call)) h.made in
+        let a-is : a ≡ answer_to D s call = said ∙ ap (λ (x : Made Cell). answer_to x s call) h.made in
         let s-is : s' ≡ after_step D s call = left ∙ ap (λ (x : Made Cell). after_step x s call) h.made in
         record {
           made = same ∙ h.made;

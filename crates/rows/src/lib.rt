@@ -3,7 +3,7 @@
 
 ghost use Rattle.std.specs.Prelude.{◌≡◌, ◌<◌, ◌≤◌, map, length, MatchResult};
 ghost use Rattle.mapping.specs.Memory.{over};
-ghost use Rattle.rows.specs.Rows.{step_of, answer_to, answer_of, after_step, row_answers, after_row, Done};
+ghost use Rattle.rows.specs.Rows.{step_of, answer_to, after_step, row_answers, after_row, Done};
 ghost use Rattle.workbook.specs.Books.{made_of, state_of};
 
 use formula::Literal;
@@ -12,44 +12,24 @@ use store::Store;
 use workbook::{Parts, Sheet, Workbook, WorkbookFault};
 
 // A call with its arguments: a size, or the literals of a clause.
-#[derive(Clone, Copy)]
+#[derive(Clone, Copy, Debug, PartialEq, Eq)]
 pub enum Call<'a> {
     Declare(u32),
     State(&'a [Literal]),
 }
 
 // What a call answers: the number of the variable or clause, or why not.
-#[derive(Clone, Copy)]
-pub enum Answer {
-    Number(u32),
-    Refused(WorkbookFault),
-}
-
-impl Answer {
-    // The answer as a call gives it.
-    pub fn result(self) -> Result<u32, WorkbookFault>
-        ensures { answer_of result ≡ self }
-    {
-        match self {
-            Answer::Number(number) => Ok(number),
-            Answer::Refused(fault) => Err(fault),
-        }
-    }
-}
+pub type Answer = Result<u32, WorkbookFault>;
 
 // Makes one call.
 fn make_call<M: Mapping, S: Store>(workbook: &mut Workbook<M, S>, call: &Call) -> Answer
-    ensures answer { result ≡ answer_of (answer_to (made_of M.Mapping.meaning S.Store.terms workbook.old) (state_of S.Store.contents workbook.old) (step_of call.now)) }
+    ensures answer { result ≡ answer_to (made_of M.Mapping.meaning S.Store.terms workbook.old) (state_of S.Store.contents workbook.old) (step_of call.now) }
     ensures after { state_of S.Store.contents workbook.new ≡ after_step (made_of M.Mapping.meaning S.Store.terms workbook.old) (state_of S.Store.contents workbook.old) (step_of call.now) }
     ensures same { made_of M.Mapping.meaning S.Store.terms workbook.new ≡ made_of M.Mapping.meaning S.Store.terms workbook.old }
 {
-    let answer = match call {
+    match call {
         Call::Declare(size) => workbook.declare(*size),
         Call::State(literals) => workbook.state(literals),
-    };
-    match answer {
-        Ok(number) => Answer::Number(number),
-        Err(fault) => Answer::Refused(fault),
     }
 }
 
@@ -64,8 +44,9 @@ fn make_calls<M: Mapping, S: Store>(
     ensures after { state_of S.Store.contents workbook.new ≡ after_row (made_of M.Mapping.meaning S.Store.terms workbook.old) (state_of S.Store.contents workbook.old) (map step_of row.now) }
     ensures same { made_of M.Mapping.meaning S.Store.terms workbook.new ≡ made_of M.Mapping.meaning S.Store.terms workbook.old }
 {
-    for i in 0..row.len() {
-        answers[i] = make_call(workbook, &row[i]);
+    for (i, call) in row.iter().enumerate() {
+        // kept: the index, since a proof knows nothing of places that are written through `answers.iter_mut().zip(row)` (tried).
+        answers[i] = make_call(workbook, call);
     }
 }
 

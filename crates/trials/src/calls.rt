@@ -62,7 +62,7 @@ fn put_refusals(all: &mut Vec<u8>, answers: &[Answer]) {
     let mut place = 0i64;
     for answer in answers {
         place = place.saturating_add(1);
-        if let Answer::Refused(fault) = answer {
+        if let Err(fault) = answer {
             put_refusal(all, place, refused(Refusal::from(*fault)));
         }
     }
@@ -73,7 +73,7 @@ fn made(heap: Global, row: &[Call]) -> Result<Vec<u8>, AllocError> {
     let mut all = Vec::new(heap);
     let store = TextStore::new(vec![in heap; 0u8; BYTES]?);
     let sheet = workbook::Sheet::new(heap)?;
-    let mut answers = vec![in heap; Answer::Number(0); row.len()]?;
+    let mut answers = vec![in heap; Ok(0); row.len()]?;
     match make_row(1, FullRegular, store, sheet, row, answers.as_mut_slice()) {
         Err(parts) => {
             let Parts {

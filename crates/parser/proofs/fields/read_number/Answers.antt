@@ -1,13 +1,20 @@
-use Rattle.std.proofs.Common.{sym, arith}
-use Rattle.std.proofs.lemmas.Bool.{eqb-false}
-use Rattle.parser.proofs.Digits.{read_more, read_stop, read_all}
+use Rattle.std.proofs.Common.{◌≡◌, ◌∙◌, rules, tests, arith}
+use Rattle.std.proofs.lemmas.Iterator.{YieldsList-from_slice}
+use Rattle.std.proofs.lemmas.Iterator.Search.{all_from_yields_List}
+use Rattle.parser.specs.Fields.{is_digit}
+use Rattle.parser.proofs.Digits.{all_digits, digits_utf8, parsed}
 use Rattle.parser.proofs.fields.read_number.Goals as goal
 
-pub loop-byte-preserved : goal.loop-byte-preserved
-loop-byte-preserved c = read_more c.args.field.now _ _ c.loop-byte.invariant c.loop-byte-test.true (sym c.if-not-is_digit.ensures)
-
-pub returns-then-not-is_digit : goal.returns-then-not-is_digit
-returns-then-not-is_digit c = read_stop c.args.field.now _ _ c.loop-byte.invariant c.loop-byte-test.true (sym c.if-not-is_digit.ensures)
+pub returns-in_err-ok : goal.returns-in_err-ok
+returns-in_err-ok c =
+    let field = c.args.field.now in
+    let all = all_digits field c.all.result c.if-not-all.false (all_from_yields_List is_digit _ _ _ c.all.ensures.ran (YieldsList-from_slice field (cc)) (λ x b q k. search (rules, tests))) in
+    let text = digits_utf8 field all in
+    search rules
 
 pub returns : goal.returns
-returns c = read_all c.args.field.now _ _ c.loop-byte.invariant c.loop-byte-test.false (omega (arith, eqb-false _ 0 (sym c.if-is_empty.ensures))) (omega arith)
+returns c =
+    let field = c.args.field.now in
+    let all = all_digits field c.all.result c.if-not-all.false (all_from_yields_List is_digit _ _ _ c.all.ensures.ran (YieldsList-from_slice field (cc)) (λ x b q k. search (rules, tests))) in
+    let same : c.in_ok-ok.field-0.now ≡ field = search rules in
+    c.ok-2.ensures.value ∙ parsed field _ (rw same at c.parse.ensures.value.0) all (omega arith)

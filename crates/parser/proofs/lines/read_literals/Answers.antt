@@ -1,27 +1,22 @@
-use Rattle.std.proofs.Common.{◌≡◌, suc, length, vec_items, sym, ap, ◌∙◌, subst, subst₂, arith}
-use Rattle.std.specs.Option.{option_map}
-use Rattle.parser.specs.Cuts.{behind}
-use Rattle.parser.specs.Fields.{literal_of}
-use Rattle.parser.proofs.Clauses.{Reading, reading_more, reading_stop}
-use Rattle.parser.proofs.Parting.{left_size, behind_shorter}
+use Rattle.std.proofs.Common.{eqb, [], ◌∷◌, length-append, subst₂, sym, ◌∙◌, rules, tests}
+use Rattle.std.proofs.lemmas.Iterator.Consumers.{YieldsList-turn, YieldsList-end}
+use Rattle.std.proofs.lemmas.Iterator.Splits.{YieldsList-from_slice_split}
+use Rattle.parser.specs.Cuts.{parts}
+use Rattle.parser.proofs.Clauses.{Reading, reading_more, reading_stop, reading_all}
 use Rattle.parser.proofs.lines.read_literals.Goals as goal
 
-pub returns-in_default-read_literal : goal.returns-in_default-read_literal
-returns-in_default-read_literal c =
-    let fields = c.args.fields.now in
-    let h = subst (Reading fields (vec_items c.loop-left.literals)) (ap (option_map (λ x. x.now)) c.in-Some.is) c.loop-left.invariant in
-    reading_stop fields (vec_items c.loop-left.literals) c.in-Some.rest.now h (sym (c.read_literal.ensures ∙ ap literal_of c.cut_at-cut.ensures.front) ∙ c.in_default-read_literal.is)
+pub returns-in_default : goal.returns-in_default
+returns-in_default c =
+    let turn = YieldsList-turn (YieldsList-from_slice_split _ (λ b. eqb b 32) c.args.fields.now (cc) (cc) (cc) (λ x b q k. search (rules, tests))) c.loop-field.yielded _ c.loop-field.yielded_by _ _ c.in-Some.field c.in-Some.is c.next.ensures.steps in
+    reading_stop _ _ _ c.loop-field.invariant.2 _ turn.0 turn.1 (sym c.in_default.is ∙ c.read_literal.ensures)
 
-pub loop-left-smaller : goal.loop-left-smaller
-loop-left-smaller c =
-    let rest = c.in-Some.rest.now in
-    let was : left_size (option_map (λ x. x.now) c.loop-left.left) ≡ suc (length rest) = ap (λ o. left_size (option_map (λ x. x.now) o)) c.in-Some.is in
-    let is : left_size (option_map (λ x. x.now) c.cut_at-cut.result.rest) ≡ left_size (behind 32 rest) = ap left_size c.cut_at-cut.ensures.rest in
-    omega (arith, was, is, behind_shorter 32 rest)
+pub loop-field-preserved : goal.loop-field-preserved
+loop-field-preserved c =
+    let turn = YieldsList-turn (YieldsList-from_slice_split _ (λ b. eqb b 32) c.args.fields.now (cc) (cc) (cc) (λ x b q k. search (rules, tests))) c.loop-field.yielded _ c.loop-field.yielded_by _ _ c.in-Some.field c.in-Some.is c.next.ensures.steps in
+    let more = reading_more _ _ _ c.loop-field.invariant.2 _ turn.0 turn.1 _ (sym c.in-Some-read_literal.is ∙ c.read_literal.ensures) in
+    (search rules, tt, subst₂ (Reading (parts 32 c.args.fields.now)) (sym c.in_ok-push.ensures.items) (sym (length-append c.loop-field.yielded (c.in-Some.field ∷ []))) more)
 
-pub loop-left-preserved : goal.loop-left-preserved
-loop-left-preserved c =
-    let fields = c.args.fields.now in
-    let h = subst (Reading fields (vec_items c.loop-left.literals)) (ap (option_map (λ x. x.now)) c.in-Some.is) c.loop-left.invariant in
-    let next = reading_more fields (vec_items c.loop-left.literals) c.in-Some.rest.now h _ (sym (c.read_literal.ensures ∙ ap literal_of c.cut_at-cut.ensures.front) ∙ c.in-Some-read_literal.is) in
-    subst₂ (Reading fields) (sym c.in_ok-push.ensures.items) (sym c.cut_at-cut.ensures.rest) next
+pub returns : goal.returns
+returns c =
+    let done = YieldsList-end (YieldsList-from_slice_split _ (λ b. eqb b 32) c.args.fields.now (cc) (cc) (cc) (λ x b q k. search (rules, tests))) c.loop-field.yielded _ c.loop-field.yielded_by _ _ c.in-None.is c.next.ensures.steps in
+    reading_all _ _ _ c.loop-field.invariant.2 done.1

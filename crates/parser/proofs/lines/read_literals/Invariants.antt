@@ -1,11 +1,9 @@
-use Rattle.std.proofs.Common.{vec_items}
-use Rattle.std.specs.Option.{option_map}
+use Rattle.std.proofs.Common.{length, vec_items}
+use Rattle.parser.specs.Cuts.{parts}
 use Rattle.parser.proofs.Clauses.{Reading}
-use Rattle.parser.proofs.Parting.{left_size}
 use Rattle.parser.proofs.lines.read_literals.Given as goal
 
-abbrev pub invariant-loop-left : goal.invariant-loop-left
-invariant-loop-left l = Reading l.fields (vec_items l.literals) (option_map (λ x. x.now) l.left)
-
-abbrev pub decreases-loop-left : goal.decreases-loop-left
-decreases-loop-left l = left_size (option_map (λ x. x.now) l.left)
+abbrev pub invariant-loop-field : goal.invariant-loop-field
+invariant-loop-field l =
+    (goal.iterator-loop-field).can_next l.field-iterator × (goal.iterator-loop-field).is_finite l.field-iterator
+    × Reading (parts 32 l.fields) (vec_items l.literals) (length l.yielded)
