@@ -1,8 +1,7 @@
 -- The bytes of the two signs. Assumes nothing.
-use Rattle.std.specs.Prelude.{◌≡◌, ℕ, cond, Some, None, Ok, Err, Option, Result, ◌==◌}
+use Rattle.std.specs.Prelude.{ℕ, cond, Some, None, Option, ◌==◌}
 use Rattle.formula.specs.declared.signed.Sign.{Sign}
 use Rattle.formula.specs.declared.signed.Sign.TheVariants.{Plus, Minus}
-use Rattle.formula.specs.declared.signed.UnknownSign.{UnknownSign}
 
 -- + is 43 and - is 45
 abbrev pub sign_byte : Sign → ℕ
@@ -12,8 +11,3 @@ sign_byte Minus = 45
 -- any other byte is no sign
 abbrev pub sign_of : ℕ → Option Sign
 sign_of b = cond (b == 43) (Some Plus) (cond (b == 45) (Some Minus) None)
-
--- what reading a byte as a sign answers: the sign, or the byte that is none
-abbrev pub Reads : ℕ → Result Sign UnknownSign → Type 0
-Reads b (Ok s) = sign_of b ≡ Some s
-Reads b (Err e) = (sign_of b ≡ None) × (e.0 ≡ b)

@@ -1,6 +1,7 @@
 // Signed literals.
 ghost use Rattle.std.specs.Prelude.{◌≡◌};
-ghost use Rattle.formula.specs.Signs.{sign_byte, Reads};
+ghost use Rattle.std.specs.Result.{result_ok};
+ghost use Rattle.formula.specs.Signs.{sign_byte, sign_of};
 
 // Whether a literal says that its variable has the value, or that it has another.
 #[derive(Clone, Copy, Debug, PartialEq, Eq)]
@@ -19,7 +20,7 @@ pub struct Literal {
 
 // A byte that is no sign.
 #[derive(Clone, Copy, Debug, PartialEq, Eq)]
-pub struct UnknownSign(pub u8);
+pub struct UnknownSign;
 
 // The byte that a sign is written as.
 impl From<Sign> for u8 {
@@ -37,13 +38,13 @@ impl From<Sign> for u8 {
 impl TryFrom<u8> for Sign {
     type Error = UnknownSign;
 
-    ghost try_from_gives = { λ b r. Reads b r };
+    ghost try_from_gives = { λ b r. result_ok r ≡ sign_of b };
 
     fn try_from(byte: u8) -> Result<Sign, UnknownSign> {
         match byte {
             b'+' => Ok(Sign::Plus),
             b'-' => Ok(Sign::Minus),
-            _ => Err(UnknownSign(byte)),
+            _ => Err(UnknownSign),
         }
     }
 }

@@ -1,28 +1,28 @@
 // Widths, and axioms with all of the memory that they were written to.
-use crate::subject::{Subject, filler};
+use crate::subject::{Subject, fillers};
 use mapping::{AXIOM_WORDS, Mapping};
 use reference::tally::Tally;
-use reference::text::{counted, put};
+use std::alloc::AllocError;
 
-pub fn try_width<M: Mapping>(tally: &mut Tally, subject: &Subject<M>) {
-    let made = subject.mapping.width(subject.size) as i64;
-    subject.compare(tally, &[], &[subject.coding.width()], &[made]);
-}
-
-// The number of words comes first.
-pub fn try_axioms<M: Mapping>(tally: &mut Tally, subject: &Subject<M>) {
-    let mut words = Vec::new(tally.heap);
-    subject.coding.put_axioms(&mut words);
-    let mut wanted = Vec::new(tally.heap);
-    put(&mut wanted, counted(words.len()));
-    let mut memory = [0i32; AXIOM_WORDS];
-    let count = subject.write_axioms(&mut memory);
-    let mut made = Vec::new(tally.heap);
-    put(&mut made, counted(count));
-    for place in 0..AXIOM_WORDS {
-        let word = words.get(place).copied();
-        put(&mut wanted, word.unwrap_or(filler(place) as i64));
-        put(&mut made, memory[place] as i64);
+impl<M: Mapping> Subject<M> {
+    pub fn try_width(&self, tally: &mut Tally) -> Result<(), AllocError> {
+        let made = i64::from(self.mapping.width(self.size));
+        self.compare(tally, &(), &self.coding.width(), &made)
     }
-    subject.compare(tally, &[], wanted.as_slice(), made.as_slice());
+
+    // The number of words, and the words and the memory behind them.
+    pub fn try_axioms(&self, tally: &mut Tally) -> Result<(), AllocError> {
+        let words = self.coding.axioms(tally.heap)?;
+        let mut wanted = fillers::<AXIOM_WORDS>().map(i64::from);
+        for (place, word) in wanted.iter_mut().zip(words.iter()) {
+            *place = *word;
+        }
+        let made = self.axioms();
+        self.compare(
+            tally,
+            &(),
+            &(words.len(), wanted),
+            &(made.count, made.memory.map(i64::from)),
+        )
+    }
 }

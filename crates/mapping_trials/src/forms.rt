@@ -1,36 +1,31 @@
 // Forms of values in and out of range, with all of the places that they were written to.
 use crate::sizes::values;
-use crate::subject::{Subject, filler};
-use mapping::{FORM_LITERALS, Mapping};
+use crate::subject::{Formed, Subject, fillers};
+use mapping::Mapping;
+use reference::forms::Sign;
 use reference::tally::Tally;
-use reference::text::{counted, put};
+use std::alloc::AllocError;
 
-fn number(all: bool) -> i64 {
-    if all { 1 } else { 0 }
-}
-
-// Whether all have to be true comes first, then the number of literals.
-fn try_form<M: Mapping>(tally: &mut Tally, subject: &Subject<M>, value: u32, plus: bool) {
-    let form = subject.coding.form(value as i64, plus);
-    let formed = subject.form(value, plus);
-    let mut wanted = Vec::new(tally.heap);
-    put(&mut wanted, number(form.all));
-    put(&mut wanted, counted(form.count));
-    let mut made = Vec::new(tally.heap);
-    put(&mut made, number(formed.all));
-    put(&mut made, counted(formed.count));
-    for place in 0..FORM_LITERALS {
-        let literal = form.members().get(place).copied();
-        put(&mut wanted, literal.unwrap_or(filler(place) as i64));
-        put(&mut made, formed.places[place] as i64);
+impl<M: Mapping> Subject<M> {
+    fn try_form(&self, tally: &mut Tally, value: u32, sign: Sign) -> Result<(), AllocError> {
+        let form = self.coding.form(tally.heap, i64::from(value), sign)?;
+        let mut places = fillers();
+        for (place, literal) in places.iter_mut().zip(form.literals.iter()) {
+            *place = i32::try_from(*literal).unwrap_or(0);
+        }
+        let wanted = Formed {
+            kind: form.kind,
+            count: form.literals.len(),
+            places,
+        };
+        self.compare(tally, &(value, sign), &wanted, &self.form(value, sign))
     }
-    let about = [value as i64, number(plus)];
-    subject.compare(tally, &about, wanted.as_slice(), made.as_slice());
-}
 
-pub fn try_forms<M: Mapping>(tally: &mut Tally, subject: &Subject<M>) {
-    for value in values(tally.heap, subject.size).iter() {
-        try_form(tally, subject, *value, true);
-        try_form(tally, subject, *value, false);
+    pub fn try_forms(&self, tally: &mut Tally) -> Result<(), AllocError> {
+        for value in values(tally.heap, self.size)?.iter() {
+            self.try_form(tally, *value, Sign::Plus)?;
+            self.try_form(tally, *value, Sign::Minus)?;
+        }
+        Ok(())
     }
 }

@@ -18,64 +18,42 @@ use full_encodings::FullLogarithmic;
 use mapping::Mapping;
 use reference::encodings::Encoding;
 use reference::tally::Tally;
-use reference::text::put_all;
 use standard_encoding::Standard;
+use std::alloc::AllocError;
 use std::io;
 use std::io::Write;
-use subject::Subject;
+use subject::{Subject, Subjects};
 use tied_encodings::{HalfTied, Tied};
 
-// Reports a group of a mapping.
-fn close(tally: &mut Tally, encoding: Encoding, group: &str) {
-    put_all(&mut tally.report, encoding.name().as_bytes());
-    tally.close(group);
-}
-
 // At every size, one question after the other.
-fn try_mapping<M: Mapping + Copy>(tally: &mut Tally, encoding: Encoding, mapping: M) {
-    let subjects = subject::list(tally.heap, encoding, mapping);
-    for subject in subjects.iter() {
-        axioms::try_width(tally, subject);
-    }
-    close(tally, encoding, ", widths");
-    for subject in subjects.iter() {
-        axioms::try_axioms(tally, subject);
-    }
-    close(tally, encoding, ", axioms");
-    for subject in subjects.iter() {
-        forms::try_forms(tally, subject);
-    }
-    close(tally, encoding, ", forms");
-    for subject in subjects.iter() {
-        nearly::try_codes(tally, subject);
-    }
-    close(tally, encoding, ", readings of codes and near ones");
-    for subject in subjects.iter() {
-        readings::try_strangers(tally, subject);
-    }
-    close(tally, encoding, ", readings of rows of any length");
-    for subject in subjects.iter() {
-        readings::try_all(tally, subject);
-    }
-    close(tally, encoding, ", readings of all rows");
-    for subject in subjects.iter() {
-        counts::try_counts(tally, subject);
-    }
-    close(tally, encoding, ", counts");
-    for subject in subjects.iter() {
-        laws::try_laws(tally, subject);
-    }
-    close(tally, encoding, ", laws");
+fn try_mapping<M: Mapping + Copy>(
+    tally: &mut Tally,
+    encoding: Encoding,
+    mapping: M,
+) -> Result<(), AllocError> {
+    let subjects = Subjects::new(tally.heap, encoding, mapping)?;
+    subjects.ask(tally, "widths", Subject::try_width)?;
+    subjects.ask(tally, "axioms", Subject::try_axioms)?;
+    subjects.ask(tally, "forms", Subject::try_forms)?;
+    subjects.ask(tally, "readings of codes and near ones", Subject::try_codes)?;
+    subjects.ask(
+        tally,
+        "readings of rows of any length",
+        Subject::try_strangers,
+    )?;
+    subjects.ask(tally, "readings of all rows", Subject::try_all)?;
+    subjects.ask(tally, "counts", Subject::try_counts)?;
+    subjects.ask(tally, "laws", Subject::try_laws)
 }
 
 fn main(rt: HostRuntime) -> io::Result<()> {
     let mut tally = Tally::new(rt.alloc());
-    try_mapping(&mut tally, Encoding::S, Standard);
-    try_mapping(&mut tally, Encoding::FL, FullLogarithmic);
-    try_mapping(&mut tally, Encoding::L, Tied(FullLogarithmic));
-    try_mapping(&mut tally, Encoding::FR, FullRegular);
-    try_mapping(&mut tally, Encoding::R, Tied(FullRegular));
-    try_mapping(&mut tally, Encoding::HR, HalfTied(Tied(FullRegular)));
-    tally.finish();
-    rt.stdout().write_all(tally.report.as_slice())
+    try_mapping(&mut tally, Encoding::S, Standard)?;
+    try_mapping(&mut tally, Encoding::FL, FullLogarithmic)?;
+    try_mapping(&mut tally, Encoding::L, Tied(FullLogarithmic))?;
+    try_mapping(&mut tally, Encoding::FR, FullRegular)?;
+    try_mapping(&mut tally, Encoding::R, Tied(FullRegular))?;
+    try_mapping(&mut tally, Encoding::HR, HalfTied(Tied(FullRegular)))?;
+    tally.finish()?;
+    rt.stdout().write_all(tally.report.as_bytes())
 }

@@ -4,65 +4,50 @@ use mapping::Mapping;
 use reference::codings::Coding;
 use reference::readings::Readings;
 use reference::tally::Tally;
-use reference::text::put;
+use std::alloc::AllocError;
 
-// Compares the readings of a row.
-pub fn try_row<M: Mapping>(tally: &mut Tally, subject: &Subject<M>, bits: &[u8]) {
-    let wanted = subject.readings.value(bits);
-    let made = subject.reading(bits);
-    if wanted == made {
-        tally.count(1, 1);
-        return;
+impl<M: Mapping> Subject<M> {
+    // Compares the readings of a row.
+    pub fn try_row(&self, tally: &mut Tally, bits: &[u8]) -> Result<(), AllocError> {
+        let wanted = self.readings.value(bits);
+        self.compare(tally, &bits, &wanted, &self.reading(bits))
     }
-    let mut about = Vec::new(tally.heap);
-    for bit in bits {
-        put(&mut about, *bit as i64);
-    }
-    subject.compare(tally, about.as_slice(), &[wanted], &[made]);
-}
 
-// Writes the bits of a number, the lowest first, in place of those that there are.
-pub fn write_bits(bits: &mut Vec<u8>, width: i64, number: u64) {
-    bits.clear();
-    let mut rest = number;
-    for _ in 0..width {
-        put(bits, (rest % 2) as u8);
-        rest /= 2;
+    // Every row, where there are not too many.
+    pub fn try_all(&self, tally: &mut Tally) -> Result<(), AllocError> {
+        for number in 0..self.rows() {
+            let bits = self.row(tally.heap, number)?;
+            self.try_row(tally, bits.as_slice())?;
+        }
+        Ok(())
     }
-}
 
-// Every row, where there are not too many.
-pub fn try_all<M: Mapping>(tally: &mut Tally, subject: &Subject<M>) {
-    let mut bits = Vec::new(tally.heap);
-    for number in 0..subject.rows() {
-        write_bits(&mut bits, subject.coding.width(), number);
-        try_row(tally, subject, bits.as_slice());
+    // Rows of one byte again and again, of every length to one more than any width, and one byte too many.
+    fn try_same(&self, tally: &mut Tally, byte: u8) -> Result<(), AllocError> {
+        let row = [byte; 129];
+        for length in 0..130 {
+            self.try_row(tally, row.get(..length).unwrap_or(&row))?;
+        }
+        Ok(())
     }
-}
 
-// Rows of one byte again and again, of every length to one more than any width, and one byte too many.
-fn try_same<M: Mapping>(tally: &mut Tally, subject: &Subject<M>, byte: u8) {
-    let mut bits = Vec::new(tally.heap);
-    for _ in 0..130 {
-        try_row(tally, subject, bits.as_slice());
-        put(&mut bits, byte);
+    // The codes of another size.
+    fn try_other(&self, tally: &mut Tally, size: i64) -> Result<(), AllocError> {
+        let coding = Coding::new(self.encoding, size);
+        for code in Readings::new(tally.heap, coding)?.codes.iter() {
+            self.try_row(tally, code.bits.as_slice())?;
+        }
+        Ok(())
     }
-}
 
-// The codes of another size.
-fn try_other<M: Mapping>(tally: &mut Tally, subject: &Subject<M>, size: i64) {
-    let coding = Coding::new(subject.encoding, size);
-    for code in Readings::new(tally.heap, coding).codes.iter() {
-        try_row(tally, subject, code.bits.as_slice());
-    }
-}
-
-// Rows that were not made for the size.
-pub fn try_strangers<M: Mapping>(tally: &mut Tally, subject: &Subject<M>) {
-    for byte in [0, 1, 2, 255] {
-        try_same(tally, subject, byte);
-    }
-    for size in [2, 3, 4, 5, 7, 8, 9, 16, 17, 32, 33, 63, 64] {
-        try_other(tally, subject, size);
+    // Rows that were not made for the size.
+    pub fn try_strangers(&self, tally: &mut Tally) -> Result<(), AllocError> {
+        for byte in [0, 1, 2, 255] {
+            self.try_same(tally, byte)?;
+        }
+        for size in [2, 3, 4, 5, 7, 8, 9, 16, 17, 32, 33, 63, 64] {
+            self.try_other(tally, size)?;
+        }
+        Ok(())
     }
 }

@@ -1,6 +1,5 @@
 // The sizes and values that are asked about.
-use reference::text::put;
-use std::alloc::Global;
+use std::alloc::{AllocError, Global};
 
 // Numbers that no size and no value is, some of them one when they are cut to fewer bits.
 static FAR: [u32; 14] = [
@@ -20,26 +19,17 @@ static FAR: [u32; 14] = [
     4_294_967_295,
 ];
 
-fn far() -> &'static [u32] {
-    &FAR
-}
-
 // The numbers from 0 to a last one, and the far ones.
-pub fn up_to(heap: Global, last: u32) -> Vec<u32> {
-    let mut numbers = Vec::new(heap);
-    for number in 0..=last {
-        put(&mut numbers, number);
-    }
-    let _ = numbers.extend_from_slice(far());
-    numbers
+fn up_to(heap: Global, last: u32) -> Result<Vec<u32>, AllocError> {
+    (0..=last).chain(FAR.iter().copied()).collect(heap)
 }
 
 // Every size from 0 to 66, and some large ones.
-pub fn sizes(heap: Global) -> Vec<u32> {
+pub fn sizes(heap: Global) -> Result<Vec<u32>, AllocError> {
     up_to(heap, 66)
 }
 
 // The values from 0 to one more than the size, or than 66 where that is large, and some large ones.
-pub fn values(heap: Global, size: u32) -> Vec<u32> {
+pub fn values(heap: Global, size: u32) -> Result<Vec<u32>, AllocError> {
     up_to(heap, size.min(66).saturating_add(1))
 }

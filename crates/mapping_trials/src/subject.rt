@@ -1,16 +1,17 @@
 // A mapping at a size, and what the reference says of it.
 use crate::sizes::sizes;
-use formula::Sign;
-use mapping::{AXIOM_WORDS, FORM_LITERALS, Kind, Mapping};
+use mapping::{AXIOM_WORDS, FORM_LITERALS, Mapping};
 use reference::codings::Coding;
 use reference::encodings::Encoding;
+use reference::forms::{Kind, Sign};
 use reference::readings::Readings;
-use reference::tally::Tally;
-use reference::text::{put, put_all, put_number};
-use std::alloc::Global;
+use reference::tally::{Case, Score, Tally};
+use std::alloc::{AllocError, Global};
+use std::array;
+use std::fmt::Debug;
 
 // The most Booleans of a size of which every row is tried.
-const MOST: usize = 12;
+const MOST: u32 = 12;
 
 #[derive(Drop)]
 pub struct Subject<M> {
@@ -21,105 +22,157 @@ pub struct Subject<M> {
     pub readings: Readings,
 }
 
-// A mapping at all sizes.
-pub fn list<M: Mapping + Copy>(heap: Global, encoding: Encoding, mapping: M) -> Vec<Subject<M>> {
-    let mut subjects = Vec::new(heap);
-    for size in sizes(heap).iter() {
-        let coding = Coding::new(encoding, *size as i64);
-        let subject = Subject {
-            mapping,
-            encoding,
-            size: *size,
-            coding,
-            readings: Readings::new(heap, coding),
-        };
-        put(&mut subjects, subject);
-    }
-    subjects
-}
-
 // What memory has before a call, at a place.
-pub fn filler(place: usize) -> i32 {
+fn filler(place: usize) -> i32 {
     i32::try_from(place).unwrap_or(0).saturating_add(1_000_000)
 }
 
-// A form as it was written.
-#[derive(Clone, Copy)]
+// Memory as it is before a call.
+pub fn fillers<const N: usize>() -> [i32; N] {
+    array::from_fn(filler)
+}
+
+// The memory that a mapping leaves when it is asked for axioms, and the words that it answers.
+#[derive(Drop)]
+pub struct Axioms {
+    pub memory: [i32; AXIOM_WORDS],
+    pub count: usize,
+}
+
+// A form as a mapping gives it: its literals are the first ones of the places, so many.
+#[derive(Clone, Copy, Debug, PartialEq, Eq)]
 pub struct Formed {
-    pub all: bool,
+    pub kind: Kind,
     pub count: usize,
     pub places: [i32; FORM_LITERALS],
 }
 
+impl<M: Mapping + Copy> Subject<M> {
+    fn new(
+        heap: Global,
+        encoding: Encoding,
+        mapping: M,
+        size: u32,
+    ) -> Result<Subject<M>, AllocError> {
+        let coding = Coding::new(encoding, i64::from(size));
+        Ok(Subject {
+            mapping,
+            encoding,
+            size,
+            coding,
+            readings: Readings::new(heap, coding)?,
+        })
+    }
+}
+
 impl<M: Mapping> Subject<M> {
-    pub fn in_range(&self) -> bool {
-        self.size > 1 && self.size < 65
-    }
-
-    // The rows of bits that the size has, or none where there would be too many.
-    pub fn rows(&self) -> u64 {
-        let width = usize::try_from(self.coding.width()).unwrap_or(0);
-        if width > 0 && width <= MOST {
-            1u64.wrapping_shl((width % 16) as u32)
-        } else {
-            0
-        }
-    }
-
     // The words that the mapping answers and the memory that it leaves.
-    pub fn write_axioms(&self, memory: &mut [i32; AXIOM_WORDS]) -> usize {
-        for place in 0..AXIOM_WORDS {
-            memory[place] = filler(place);
-        }
-        self.mapping.axioms(self.size, memory)
+    pub fn axioms(&self) -> Axioms {
+        let mut memory = fillers();
+        let count = self.mapping.axioms(self.size, &mut memory);
+        Axioms { memory, count }
     }
 
-    pub fn form(&self, value: u32, plus: bool) -> Formed {
-        let mut places = [0i32; FORM_LITERALS];
-        for place in 0..FORM_LITERALS {
-            places[place] = filler(place);
-        }
-        let sign = if plus { Sign::Plus } else { Sign::Minus };
+    // The form that the mapping gives of a value with a sign.
+    pub fn form(&self, value: u32, sign: Sign) -> Formed {
+        let mut places = fillers();
+        let sign = match sign {
+            Sign::Plus => formula::Sign::Plus,
+            Sign::Minus => formula::Sign::Minus,
+        };
         let shape = self.mapping.form(self.size, sign, value, &mut places);
+        let kind = match shape.kind {
+            mapping::Kind::AllOf => Kind::AllOf,
+            mapping::Kind::AnyOf => Kind::AnyOf,
+        };
         Formed {
-            all: matches!(shape.kind, Kind::AllOf),
+            kind,
             count: shape.count,
             places,
         }
     }
 
-    // The value that a row of bits is read as, or 0 for none; a reading of 0 is shown as -1.
-    pub fn reading(&self, bits: &[u8]) -> i64 {
-        match self.mapping.reading(self.size, bits) {
-            None => 0,
-            Some(0) => -1,
-            Some(value) => value as i64,
+    // The value that the mapping reads a row of bits as.
+    pub fn reading(&self, bits: &[u8]) -> Option<i64> {
+        self.mapping.reading(self.size, bits).map(i64::from)
+    }
+
+    // The rows of bits that the size has, by their numbers, or none where there would be too many.
+    pub fn rows(&self) -> u64 {
+        let width = u32::try_from(self.coding.width()).unwrap_or(0);
+        if width > 0 && width <= MOST {
+            2u64.saturating_pow(width)
+        } else {
+            0
         }
+    }
+
+    // The row of a number: its bits, the lowest first.
+    pub fn row(&self, heap: Global, number: u64) -> Result<Vec<u8>, AllocError> {
+        (0..self.coding.width())
+            .scan(number, |rest, _| {
+                let bit = u8::from(*rest % 2 == 1);
+                *rest /= 2;
+                Some(bit)
+            })
+            .collect(heap)
     }
 
     // Counts a comparison. What was asked is only written out where the answers differ.
-    pub fn compare(&self, tally: &mut Tally, about: &[i64], wanted: &[i64], made: &[i64]) {
+    pub fn compare<A: Debug, T: Debug + PartialEq>(
+        &self,
+        tally: &mut Tally,
+        about: &A,
+        wanted: &T,
+        made: &T,
+    ) -> Result<(), AllocError> {
         if wanted == made {
-            tally.count(1, 1);
-            return;
+            tally.agree(1);
+            return Ok(());
         }
-        tally.input.clear();
-        put_all(&mut tally.input, self.encoding.name().as_bytes());
-        put_all(&mut tally.input, b", size ");
-        put_number(&mut tally.input, self.size as i64);
-        put_all(&mut tally.input, b", asked about");
-        put_numbers(&mut tally.input, about);
-        tally.wanted.clear();
-        put_numbers(&mut tally.wanted, wanted);
-        tally.made.clear();
-        put_numbers(&mut tally.made, made);
-        tally.count(1, 0);
+        let heap = tally.heap;
+        let (encoding, size) = (self.encoding, self.size);
+        let input = format!(in heap; "{encoding}, size {size}, asked about {about:?}")?;
+        let wanted = format!(in heap; "{wanted:?}")?;
+        let made = format!(in heap; "{made:?}")?;
+        let case = Case {
+            input: input.as_bytes(),
+            wanted: wanted.as_bytes(),
+            made: made.as_bytes(),
+        };
+        tally.count(Score::of(false), &case)
     }
 }
 
-fn put_numbers(text: &mut Vec<u8>, numbers: &[i64]) {
-    for number in numbers {
-        put(text, b' ');
-        put_number(text, *number);
+// A mapping at all sizes.
+#[derive(Drop)]
+pub struct Subjects<M> {
+    encoding: Encoding,
+    all: Vec<Subject<M>>,
+}
+
+impl<M: Mapping + Copy> Subjects<M> {
+    pub fn new(heap: Global, encoding: Encoding, mapping: M) -> Result<Subjects<M>, AllocError> {
+        let mut all = Vec::new(heap);
+        for size in sizes(heap)?.iter() {
+            all.push(Subject::new(heap, encoding, mapping, *size)?)?;
+        }
+        Ok(Subjects { encoding, all })
+    }
+
+    // Asks a question at every size, and reports the answers as a group.
+    pub fn ask<F: Fn(&Subject<M>, &mut Tally) -> Result<(), AllocError>>(
+        &self,
+        tally: &mut Tally,
+        group: &str,
+        question: F,
+    ) -> Result<(), AllocError>
+        requires { F.IsAlwaysCallable question }
+    {
+        for subject in self.all.iter() {
+            question(subject, tally)?;
+        }
+        let encoding = self.encoding;
+        tally.close(format_args!("{encoding}, {group}"))
     }
 }

@@ -1,9 +1,8 @@
 // The six mappings at each size, by what each Boolean says of a value. The rows of bits of each value follow from that, and a form has
 // the Booleans that tell a value from the others, as they stand in its rows.
 use crate::encodings::Encoding;
-use crate::forms::Form;
-use crate::text::put;
-use std::alloc::Global;
+use crate::forms::{Form, Kind, Sign};
+use std::alloc::{AllocError, Global};
 
 // What a Boolean says: this value, this value or more, or a digit with this weight.
 #[derive(Clone, Copy)]
@@ -11,6 +10,13 @@ enum Saying {
     Value(i64),
     Bound(i64),
     Digit(i64),
+}
+
+// A row of bits of a value: the first, or the second of a value that two patterns of digits stand for.
+#[derive(Clone, Copy)]
+pub(crate) enum Row {
+    First,
+    Second,
 }
 
 // An encoding at a size.
@@ -29,22 +35,22 @@ impl Coding {
         self.size > 1 && self.size < 65
     }
 
-    fn has(self, value: i64) -> bool {
+    pub(crate) fn has(self, value: i64) -> bool {
         self.in_range() && value > 0 && value <= self.size
     }
 
     // The digits that it takes to count the values from 0.
-    pub fn digits(self) -> i64 {
+    fn digits(self) -> u32 {
         let last = self.size.saturating_sub(1);
-        64i64.saturating_sub(last.leading_zeros() as i64)
+        i64::BITS.saturating_sub(last.leading_zeros())
     }
 
     // The patterns of so many digits that are more than the values.
-    pub fn spare(self) -> i64 {
-        power(self.digits()).saturating_sub(self.size)
+    fn spare(self) -> i64 {
+        2i64.saturating_pow(self.digits()).saturating_sub(self.size)
     }
 
-    // The Booleans that say a value, and those in all.
+    // The Booleans that say a value.
     fn values(self) -> i64 {
         if self.encoding.has_values() {
             self.size
@@ -53,11 +59,12 @@ impl Coding {
         }
     }
 
+    // The Booleans in all.
     pub fn width(self) -> i64 {
         if !self.in_range() {
             0
         } else if self.encoding.has_digits() {
-            self.values().saturating_add(self.digits())
+            self.values().saturating_add(i64::from(self.digits()))
         } else if self.encoding.has_bounds() {
             self.values().saturating_add(self.size).saturating_sub(1)
         } else {
@@ -65,52 +72,50 @@ impl Coding {
         }
     }
 
+    // What the Boolean of a number says.
     fn saying(self, number: i64) -> Saying {
         let rest = number.saturating_sub(self.values());
         if rest < 1 {
-            Saying::Value(number)
-        } else if self.encoding.has_digits() {
-            Saying::Digit(power(rest.saturating_sub(1)))
-        } else {
-            Saying::Bound(rest.saturating_add(1))
+            return Saying::Value(number);
         }
+        if !self.encoding.has_digits() {
+            return Saying::Bound(rest.saturating_add(1));
+        }
+        let place = u32::try_from(rest.saturating_sub(1)).unwrap_or(u32::MAX);
+        Saying::Digit(2i64.saturating_pow(place))
     }
 
-    // How many patterns stand for a value: the spare ones go to the first values, one to each.
-    pub fn patterns(self, value: i64) -> i64 {
+    // The rows of a value: the spare patterns go to the first values, one to each.
+    pub(crate) fn rows(self, value: i64) -> &'static [Row] {
         if self.encoding.has_digits() && value <= self.spare() {
-            2
+            &[Row::First, Row::Second]
         } else {
-            1
+            &[Row::First]
         }
     }
 
-    // The pattern of a value, of the first or of the second row: patterns are dealt out in order.
-    fn pattern(self, value: i64, second: bool) -> i64 {
+    // The pattern of a value in one of its rows: patterns are dealt out in order.
+    fn pattern(self, value: i64, row: Row) -> i64 {
         let before = value.saturating_sub(1);
         let first = before.saturating_add(before.min(self.spare()));
-        if second && self.patterns(value) > 1 {
-            first.saturating_add(1)
-        } else {
-            first
+        match row {
+            Row::Second if value <= self.spare() => first.saturating_add(1),
+            _ => first,
         }
     }
 
-    // Whether a Boolean is true in the first or the second row of a value.
-    fn bit(self, number: i64, value: i64, second: bool) -> bool {
+    // Whether a Boolean is true in a row of a value.
+    fn bit(self, number: i64, value: i64, row: Row) -> bool {
         match self.saying(number) {
             Saying::Value(i) => value == i,
             Saying::Bound(j) => value >= j,
-            Saying::Digit(weight) => {
-                let pattern = self.pattern(value, second);
-                pattern.checked_div(weight).unwrap_or(0) % 2 == 1
-            }
+            Saying::Digit(weight) => self.pattern(value, row) & weight != 0,
         }
     }
 
     // A Boolean as it stands in the first row of a value.
     fn literal(self, number: i64, value: i64) -> i64 {
-        if self.bit(number, value, false) {
+        if self.bit(number, value, Row::First) {
             number
         } else {
             number.saturating_neg()
@@ -119,128 +124,121 @@ impl Coding {
 
     // Whether a Boolean tells a value from another one.
     fn tells(self, number: i64, value: i64, other: i64) -> bool {
-        self.has(other) && self.bit(number, value, false) != self.bit(number, other, false)
+        self.has(other)
+            && self.bit(number, value, Row::First) != self.bit(number, other, Row::First)
     }
 
-    // Of the digits those that are the same in both rows of a value, the highest first.
-    fn digit_list(self, value: i64) -> Form {
-        let mut list = Form::new(true);
-        for place in 0..self.digits() {
-            let number = self.width().saturating_sub(place);
-            if self.bit(number, value, false) == self.bit(number, value, true) {
-                list.put(self.literal(number, value));
-            }
-        }
-        list
+    // Whether a Boolean tells a value from the one before it or the one behind it.
+    fn tells_apart(self, number: i64, value: i64) -> bool {
+        self.tells(number, value, value.saturating_sub(1))
+            || self.tells(number, value, value.saturating_add(1))
     }
 
-    // Of the bounds those that tell a value from the one before it or the one behind it.
-    fn bound_list(self, value: i64) -> Form {
-        let mut list = Form::new(true);
-        for place in 1..self.size {
-            let number = self.values().saturating_add(place);
-            let before = self.tells(number, value, value.saturating_sub(1));
-            if before || self.tells(number, value, value.saturating_add(1)) {
-                list.put(self.literal(number, value));
-            }
-        }
-        list
+    // Whether a Boolean is the same in both rows of a value.
+    fn stays(self, number: i64, value: i64) -> bool {
+        self.bit(number, value, Row::First) == self.bit(number, value, Row::Second)
     }
 
-    // The literals of a value among the Booleans that are digits or bounds.
-    fn inner(self, value: i64) -> Form {
+    // The literals of a value among the Booleans that are digits or bounds: the digits that stay, the highest first, or the bounds that
+    // tell it apart.
+    fn inner(self, heap: Global, value: i64) -> Result<Vec<i64>, AllocError> {
+        let numbers = self.values().saturating_add(1)..=self.width();
         if self.encoding.has_digits() {
-            self.digit_list(value)
+            numbers
+                .rev()
+                .filter(|number| self.stays(*number, value))
+                .map(|number| self.literal(number, value))
+                .collect(heap)
         } else {
-            self.bound_list(value)
+            numbers
+                .filter(|number| self.tells_apart(*number, value))
+                .map(|number| self.literal(number, value))
+                .collect(heap)
         }
     }
 
-    // The form of a value with a plus or a minus.
-    pub fn form(self, value: i64, plus: bool) -> Form {
-        if !self.has(value) {
-            return Form::new(false);
+    // Whether the form of a value with a sign is made of the value's own Boolean.
+    fn has_own(self, sign: Sign) -> bool {
+        match self.encoding {
+            Encoding::S | Encoding::L | Encoding::R => true,
+            Encoding::HR => sign == Sign::Plus,
+            Encoding::FL | Encoding::FR => false,
         }
-        let mut own = Form::new(true);
-        own.put(value);
-        let all = match self.encoding {
-            Encoding::S | Encoding::L | Encoding::R => own,
-            Encoding::HR if plus => own,
-            _ => self.inner(value),
+    }
+
+    // The form of a value with a sign. A value that there is not has a form of no literals, which is false.
+    pub fn form(self, heap: Global, value: i64, sign: Sign) -> Result<Form, AllocError> {
+        if !self.has(value) {
+            return Ok(Form {
+                kind: Kind::AnyOf,
+                literals: Vec::new(heap),
+            });
+        }
+        let literals = if self.has_own(sign) {
+            vec![in heap; value]?
+        } else {
+            self.inner(heap, value)?
         };
-        if plus { all } else { all.opposite() }
+        Ok(Form::new(sign, literals))
     }
 
     // One of the values, and no two of them.
-    fn put_choice(self, words: &mut Vec<i64>) {
-        for i in 1..=self.size {
-            put(words, i);
-        }
-        put(words, 0);
+    fn put_choice(self, words: &mut Vec<i64>) -> Result<(), AllocError> {
+        words.extend(1..=self.size)?;
+        words.push(0)?;
         for j in 1..=self.size {
             for n in j.saturating_add(1)..=self.size {
-                put_two(words, j.saturating_neg(), n.saturating_neg());
+                words.extend_from_slice(&[j.saturating_neg(), n.saturating_neg(), 0])?;
             }
         }
+        Ok(())
     }
 
     // A bound that is true makes the one before it true.
-    fn put_links(self, words: &mut Vec<i64>) {
-        let first = self.values().saturating_add(2);
-        for number in first..=self.width() {
-            put_two(words, number.saturating_neg(), number.saturating_sub(1));
+    fn put_links(self, words: &mut Vec<i64>) -> Result<(), AllocError> {
+        for number in self.values().saturating_add(2)..=self.width() {
+            words.extend_from_slice(&[number.saturating_neg(), number.saturating_sub(1), 0])?;
         }
+        Ok(())
     }
 
     // Each value's own Boolean is true where all literals of the value are.
-    fn put_ties(self, words: &mut Vec<i64>) {
+    fn put_ties(self, words: &mut Vec<i64>) -> Result<(), AllocError> {
         for value in 1..=self.size {
-            let list = self.inner(value);
-            for literal in list.members() {
-                put_two(words, value.saturating_neg(), *literal);
+            let list = self.inner(*words.allocator(), value)?;
+            for literal in list.iter() {
+                words.extend_from_slice(&[value.saturating_neg(), *literal, 0])?;
             }
-            put(words, value);
-            for literal in list.members() {
-                put(words, literal.saturating_neg());
-            }
-            put(words, 0);
+            words.push(value)?;
+            words.extend(list.iter().map(|literal| literal.saturating_neg()))?;
+            words.push(0)?;
         }
+        Ok(())
     }
 
-    // Adds the axioms, each ended by a 0.
-    pub fn put_axioms(self, words: &mut Vec<i64>) {
+    // The axioms, each ended by a 0.
+    pub fn axioms(self, heap: Global) -> Result<Vec<i64>, AllocError> {
+        let mut words = Vec::new(heap);
         if !self.in_range() {
-            return;
+            return Ok(words);
         }
         match self.encoding {
-            Encoding::S => self.put_choice(words),
+            Encoding::S => self.put_choice(&mut words)?,
             Encoding::FL => {}
-            Encoding::L => self.put_ties(words),
-            Encoding::FR => self.put_links(words),
+            Encoding::L => self.put_ties(&mut words)?,
+            Encoding::FR => self.put_links(&mut words)?,
             Encoding::R | Encoding::HR => {
-                self.put_links(words);
-                self.put_ties(words);
+                self.put_links(&mut words)?;
+                self.put_ties(&mut words)?;
             }
         }
+        Ok(words)
     }
 
-    // A row of bits of a value, the first or the second.
-    pub fn row(self, heap: Global, value: i64, second: bool) -> Vec<u8> {
-        let mut bits = Vec::new(heap);
-        for number in 1..=self.width() {
-            let bit = self.bit(number, value, second);
-            put(&mut bits, if bit { 1 } else { 0 });
-        }
-        bits
+    // A row of bits of a value.
+    pub(crate) fn bits(self, heap: Global, value: i64, row: Row) -> Result<Vec<u8>, AllocError> {
+        (1..=self.width())
+            .map(|number| u8::from(self.bit(number, value, row)))
+            .collect(heap)
     }
-}
-
-fn power(exponent: i64) -> i64 {
-    1i64.wrapping_shl((exponent.unsigned_abs() % 64) as u32)
-}
-
-fn put_two(words: &mut Vec<i64>, first: i64, second: i64) {
-    put(words, first);
-    put(words, second);
-    put(words, 0);
 }

@@ -1,4 +1,6 @@
 // The names of the mappings, and which Booleans each has.
+use std::fmt;
+
 #[derive(Clone, Copy)]
 pub enum Encoding {
     S,
@@ -8,15 +10,6 @@ pub enum Encoding {
     R,
     HR,
 }
-
-pub const ENCODINGS: [Encoding; 6] = [
-    Encoding::S,
-    Encoding::FL,
-    Encoding::L,
-    Encoding::FR,
-    Encoding::R,
-    Encoding::HR,
-];
 
 impl Encoding {
     pub fn name(self) -> &'static str {
@@ -31,17 +24,23 @@ impl Encoding {
     }
 
     // Whether there is a Boolean for each value.
-    pub fn has_values(self) -> bool {
+    pub(crate) fn has_values(self) -> bool {
         !matches!(self, Encoding::FL | Encoding::FR)
     }
 
     // Whether there are digits.
-    pub fn has_digits(self) -> bool {
+    pub(crate) fn has_digits(self) -> bool {
         matches!(self, Encoding::FL | Encoding::L)
     }
 
     // Whether there is a Boolean for each value or more.
-    pub fn has_bounds(self) -> bool {
+    pub(crate) fn has_bounds(self) -> bool {
         matches!(self, Encoding::FR | Encoding::R | Encoding::HR)
+    }
+}
+
+impl fmt::Display for Encoding {
+    fn fmt<W: fmt::Write>(&self, f: &mut fmt::Formatter<W>) -> fmt::Result {
+        f.write_str(self.name())
     }
 }

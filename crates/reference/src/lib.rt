@@ -8,6 +8,6 @@ pub mod forms;
 pub mod lines;
 pub mod program;
 pub mod readings;
+pub mod refusals;
 pub mod sheet;
 pub mod tally;
-pub mod text;

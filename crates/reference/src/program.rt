@@ -1,75 +1,40 @@
 // What the program is to print for an input, by the second translator.
-use crate::encodings::{ENCODINGS, Encoding};
-use crate::lines::{Line, Reader};
-use crate::sheet::{Refused, Sheet};
-use crate::text::put_all;
-use std::alloc::Global;
+use crate::encodings::Encoding;
+use crate::lines::read;
+use crate::sheet::Sheet;
+use std::alloc::{AllocError, Global};
+
+// The bytes that an input has at most.
+const LONGEST: usize = 16_384;
 
 // The words that the program's store takes: 32,768 bytes, nine for a word.
-const CAPACITY: i64 = 3640;
+const CAPACITY: usize = 3640;
 
-const UNREADABLE: Refused = Refused {
-    number: 15,
-    layer: b'L',
-    first: 0,
-    second: 0,
-};
+// The encoding that a first line names, of those that are known.
+fn read_first(line: &[u8], known: &[Encoding]) -> Option<Encoding> {
+    let name = line.strip_prefix(b"m ")?;
+    known
+        .iter()
+        .copied()
+        .find(|encoding| encoding.name().as_bytes() == name)
+}
 
-// Enters a line of a number, or notes its refusal.
-fn enter(sheet: &mut Sheet, number: i64, reader: &mut Reader) {
-    let refused = match reader.end() {
-        Line::Unreadable => Some(UNREADABLE),
-        Line::Declare(size) => sheet.declare(size),
-        Line::State => sheet.state(reader.literals.as_slice()),
+// A line without its newline.
+fn trimmed(line: &[u8]) -> &[u8] {
+    line.strip_suffix(b"\n").unwrap_or(line)
+}
+
+// What the program is to print for an input, where it knows some encodings.
+pub fn output(heap: Global, input: &[u8], known: &[Encoding]) -> Result<String, AllocError> {
+    let mut lines = input.split_inclusive(|byte| *byte == b'\n').map(trimmed);
+    let encoding = lines.next().and_then(|line| read_first(line, known));
+    let Some(encoding) = encoding.filter(|_| input.len() <= LONGEST) else {
+        return String::from_str(heap, "c refused 1 15 L 0 0\n");
     };
-    if let Some(refused) = refused {
-        sheet.note(number, refused);
-    }
-    reader.literals.clear();
-}
-
-// The lines behind the first.
-fn translate(heap: Global, encoding: Encoding, lines: &[u8], all: &mut Vec<u8>) {
-    let mut reader = Reader::new(heap);
     let mut sheet = Sheet::new(heap, encoding, CAPACITY);
-    let mut number = 2i64;
-    for byte in lines {
-        if *byte == b'\n' {
-            enter(&mut sheet, number, &mut reader);
-            number = number.saturating_add(1);
-        } else {
-            reader.feed(*byte);
-        }
+    for (number, line) in (2..).zip(lines) {
+        let outcome = read(heap, line).and_then(|line| sheet.enter(&line));
+        sheet.note(number, outcome)?;
     }
-    if !reader.is_empty() {
-        enter(&mut sheet, number, &mut reader);
-    }
-    sheet.print(all);
-}
-
-// The encoding that an input names in its first line, and the length of that line with its end.
-pub fn read_first(input: &[u8]) -> Option<(Encoding, usize)> {
-    for encoding in ENCODINGS {
-        if let Some(name) = input.strip_prefix(b"m ") {
-            let length = encoding.name().len();
-            let ends = matches!(name.get(length).copied(), None | Some(b'\n'));
-            if ends && name.starts_with(encoding.name().as_bytes()) {
-                return Some((encoding, length.saturating_add(3)));
-            }
-        }
-    }
-    None
-}
-
-// What the program is to print for an input.
-pub fn output(heap: Global, input: &[u8]) -> Vec<u8> {
-    let mut all = Vec::new(heap);
-    match read_first(input) {
-        Some((encoding, start)) if input.len() <= 16384 => {
-            let lines = input.get(start..).unwrap_or(b"");
-            translate(heap, encoding, lines, &mut all);
-        }
-        _ => put_all(&mut all, b"c refused 1 15 L 0 0\n"),
-    }
-    all
+    sheet.to_string(heap)
 }

@@ -1,7 +1,6 @@
 // The rows of bits that stand for values.
 use crate::codings::Coding;
-use crate::text::put;
-use std::alloc::Global;
+use std::alloc::{AllocError, Global};
 
 // A row of bits and its value.
 #[derive(Drop)]
@@ -17,26 +16,22 @@ pub struct Readings {
 }
 
 impl Readings {
-    pub fn new(heap: Global, coding: Coding) -> Readings {
+    pub fn new(heap: Global, coding: Coding) -> Result<Readings, AllocError> {
         let mut codes = Vec::new(heap);
         if coding.in_range() {
             for value in 1..=coding.size {
-                for row in 0..coding.patterns(value) {
-                    let bits = coding.row(heap, value, row == 1);
-                    put(&mut codes, Code { value, bits });
+                for row in coding.rows(value) {
+                    let bits = coding.bits(heap, value, *row)?;
+                    codes.push(Code { value, bits })?;
                 }
             }
         }
-        Readings { codes }
+        Ok(Readings { codes })
     }
 
-    // The value that a row of bits stands for, or 0 for none.
-    pub fn value(&self, bits: &[u8]) -> i64 {
-        for code in self.codes.iter() {
-            if code.bits.as_slice() == bits {
-                return code.value;
-            }
-        }
-        0
+    // The value that a row of bits stands for.
+    pub fn value(&self, bits: &[u8]) -> Option<i64> {
+        let code = self.codes.iter().find(|code| code.bits.as_slice() == bits)?;
+        Some(code.value)
     }
 }

@@ -1,131 +1,150 @@
 // Counts comparisons, and reports the first of a group that fails.
-use crate::text::{put, put_all, put_number};
-use std::alloc::Global;
+use std::alloc::{AllocError, Global};
+use std::fmt;
+use std::fmt::{Display, Write};
 
-// The input at hand, what is wanted of it and what was made of it; how many were tried in a group and how many agree; the
-// first difference of the group; and what is reported of all groups.
+// How many comparisons were tried, and how many of them agree.
+#[derive(Clone, Copy, Default)]
+pub struct Score {
+    pub tried: u64,
+    pub agree: u64,
+}
+
+impl Score {
+    // One comparison.
+    pub fn of(agrees: bool) -> Score {
+        Score {
+            tried: 1,
+            agree: u64::from(agrees),
+        }
+    }
+
+    // Adds the comparisons of another score.
+    pub fn add(&mut self, more: Score) {
+        self.tried = self.tried.saturating_add(more.tried);
+        self.agree = self.agree.saturating_add(more.agree);
+    }
+
+    // Whether all agree.
+    fn is_full(self) -> bool {
+        self.tried == self.agree
+    }
+}
+
+// An input, what is wanted of it and what was made of it.
+#[derive(Clone, Copy)]
+pub struct Case<'a> {
+    pub input: &'a [u8],
+    pub wanted: &'a [u8],
+    pub made: &'a [u8],
+}
+
+impl Case<'_> {
+    // The first byte at which what was made differs from what is wanted.
+    fn difference(&self) -> usize {
+        let shorter = self.wanted.len().min(self.made.len());
+        self.wanted
+            .iter()
+            .zip(self.made)
+            .position(|(wanted, made)| wanted != made)
+            .unwrap_or(shorter)
+    }
+}
+
+// Some bytes from a place on, in a readable way.
+#[derive(Clone, Copy)]
+struct Readable<'a>(&'a [u8]);
+
+impl<'a> Readable<'a> {
+    fn new(text: &'a [u8], start: usize) -> Readable<'a> {
+        let rest = text.get(start..).unwrap_or(&[]);
+        Readable(rest.get(..2000).unwrap_or(rest))
+    }
+}
+
+impl Display for Readable<'_> {
+    fn fmt<W: fmt::Write>(&self, f: &mut fmt::Formatter<W>) -> fmt::Result {
+        for byte in self.0 {
+            match *byte {
+                b'\n' => f.write_str("\\n\n    ")?,
+                b' '..=b'~' => f.write_char(char::from(*byte))?,
+                other => write!(f, "<{other}>")?,
+            }
+        }
+        Ok(())
+    }
+}
+
+// A case of which what was made differs from what is wanted: the input, and both outputs from shortly before they differ.
+impl Display for Case<'_> {
+    fn fmt<W: fmt::Write>(&self, f: &mut fmt::Formatter<W>) -> fmt::Result {
+        let start = self.difference().saturating_sub(100);
+        let input = Readable::new(self.input, 0);
+        let wanted = Readable::new(self.wanted, start);
+        let made = Readable::new(self.made, start);
+        writeln!(f, "  input:\n    {input}")?;
+        writeln!(f, "  wanted, near the first difference:\n    {wanted}")?;
+        writeln!(f, "  made:\n    {made}")
+    }
+}
+
+// The comparisons of a group; the first difference of the group; whether one of all groups fails; and what is reported of all groups.
 #[derive(Drop)]
 pub struct Tally {
     pub heap: Global,
-    pub input: Vec<u8>,
-    pub wanted: Vec<u8>,
-    pub made: Vec<u8>,
-    tried: i64,
-    agree: i64,
-    difference: Vec<u8>,
+    score: Score,
+    difference: String,
     fails: bool,
-    pub report: Vec<u8>,
-}
-
-// The first byte at which two texts differ.
-fn difference(wanted: &[u8], made: &[u8]) -> usize {
-    let mut place = 0usize;
-    for byte in wanted {
-        if made.get(place).copied() != Some(*byte) {
-            break;
-        }
-        place = place.saturating_add(1);
-    }
-    place
-}
-
-// Adds a byte in a readable way.
-fn put_readable(text: &mut Vec<u8>, byte: u8) {
-    match byte {
-        b'\n' => put_all(text, b"\\n\n    "),
-        b' '..=b'~' => put(text, byte),
-        _ => {
-            put(text, b'<');
-            put_number(text, byte as i64);
-            put(text, b'>');
-        }
-    }
-}
-
-// Adds a title and some bytes of what it is about.
-fn put_part(text: &mut Vec<u8>, title: &str, part: &[u8], start: usize) {
-    put_all(text, title.as_bytes());
-    for byte in part.iter().skip(start).take(2000) {
-        put_readable(text, *byte);
-    }
+    pub report: String,
 }
 
 impl Tally {
     pub fn new(heap: Global) -> Tally {
         Tally {
             heap,
-            input: Vec::new(heap),
-            wanted: Vec::new(heap),
-            made: Vec::new(heap),
-            tried: 0,
-            agree: 0,
-            difference: Vec::new(heap),
+            score: Score::default(),
+            difference: String::new(heap),
             fails: false,
-            report: Vec::new(heap),
+            report: String::new(heap),
         }
     }
 
-    // Notes the input at hand, and both outputs from shortly before they differ.
-    fn note(&mut self) {
-        let start = difference(self.wanted.as_slice(), self.made.as_slice()).saturating_sub(100);
-        put_part(
-            &mut self.difference,
-            "  input:\n    ",
-            self.input.as_slice(),
-            0,
-        );
-        put_part(
-            &mut self.difference,
-            "\n  wanted, near the first difference:\n    ",
-            self.wanted.as_slice(),
-            start,
-        );
-        put_part(
-            &mut self.difference,
-            "\n  made:\n    ",
-            self.made.as_slice(),
-            start,
-        );
-        put(&mut self.difference, b'\n');
+    // Counts comparisons that agree.
+    pub fn agree(&mut self, count: u64) {
+        self.score.add(Score {
+            tried: count,
+            agree: count,
+        });
     }
 
-    // Counts so many comparisons on the input at hand.
-    pub fn count(&mut self, tried: i64, agree: i64) {
-        if tried != agree && self.tried == self.agree {
-            self.note();
+    // Counts comparisons that a case shows.
+    pub fn count(&mut self, score: Score, case: &Case<'_>) -> Result<(), AllocError> {
+        if !score.is_full() && self.score.is_full() {
+            write!(self.difference, "{case}")?;
         }
-        self.tried = self.tried.saturating_add(tried);
-        self.agree = self.agree.saturating_add(agree);
+        self.score.add(score);
+        Ok(())
     }
 
     // Compares what is wanted with what was made.
-    pub fn compare(&mut self) {
-        let same = self.wanted.as_slice() == self.made.as_slice();
-        self.count(1, if same { 1 } else { 0 });
+    pub fn compare(&mut self, case: &Case<'_>) -> Result<(), AllocError> {
+        self.count(Score::of(case.wanted == case.made), case)
     }
 
     // Reports a group, and begins the next one.
-    pub fn close(&mut self, name: &str) {
-        put_all(&mut self.report, name.as_bytes());
-        put_all(&mut self.report, b": ");
-        put_number(&mut self.report, self.tried);
-        put_all(&mut self.report, b" tried, ");
-        put_number(&mut self.report, self.agree);
-        put_all(&mut self.report, b" agree\n");
-        put_all(&mut self.report, self.difference.as_slice());
-        self.fails = self.fails || self.tried != self.agree;
+    pub fn close<N: Display + Drop>(&mut self, name: N) -> Result<(), AllocError> {
+        let Score { tried, agree } = self.score;
+        writeln!(self.report, "{name}: {tried} tried, {agree} agree")?;
+        self.report.push_str(self.difference.as_str())?;
+        self.fails = self.fails || !self.score.is_full();
         self.difference.clear();
-        self.tried = 0;
-        self.agree = 0;
+        self.score = Score::default();
+        Ok(())
     }
 
     // Reports whether all agree.
-    pub fn finish(&mut self) {
-        let all = if self.fails {
-            "DISAGREE\n"
-        } else {
-            "all agree\n"
-        };
-        put_all(&mut self.report, all.as_bytes());
+    pub fn finish(&mut self) -> Result<(), AllocError> {
+        let all = if self.fails { "DISAGREE" } else { "all agree" };
+        writeln!(self.report, "{all}")
     }
 }
