@@ -41,9 +41,6 @@ pub trait Store {
 
     ghost contents: { Self → Contents Cell };
 
-    // a capacity of at most 2^40 words, a largest number of at most 2^31 - 1
-    ghost laws: { (s : Self) → Bounded (terms s) };
-
     // Appends a clause, which is lent for writing and left as it was, or refuses and changes nothing.
     fn put(&mut self, clause: &mut [i32]) -> Result<(), StoreFault>
         ensures answer { result ≡ put_answer (terms self.old) (contents self.old) clause.old }
@@ -76,4 +73,7 @@ pub trait Store {
     // The largest number that a literal may have.
     fn largest(&self) -> u64
         ensures { result ≡ (terms self.now).largest };
+
+    // a capacity of at most 2^40 words, a largest number of at most 2^31 - 1
+    ghost laws: { (s : Self) → Bounded (terms s) };
 }

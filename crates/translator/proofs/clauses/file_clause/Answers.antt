@@ -34,7 +34,7 @@ put_product-requires g c =
     let T = g.S.Store.terms c.args.store.now in
     let K = g.S.Store.contents c.args.store.now in
     let ask = asked T K g.M.Mapping.meaning c.args.places.now c.args.literals.now _ _ _ _ _ _ c.min.ensures c.forms-forms.ensures c.as_slice-product.ensures.value c.as_slice-product.ensures.fits c.reach.ensures c.count_words.ensures c.check_room.ensures in
-    ready _ _ _ _ _ _ _ _ _ ask g.met.M.Mapping.lawful (g.S.Store.laws c.args.store.now) _ c.in_ok-check_room.was _ c.new.ensures
+    ready _ _ _ _ _ _ _ _ _ ask g.met.M.Mapping.lawful (g.met.S.Store.laws c.args.store.now) _ c.in_ok-check_room.was _ c.new.ensures
 
 pub returns : goal.returns
 returns g c =
