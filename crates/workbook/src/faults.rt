@@ -6,6 +6,7 @@ ghost use Rattle.workbook.specs.Faults.{refusal_of};
 use formula::{Details, Reason, Refusal};
 use store::StoreFault;
 
+// A fault with the details that it names, where it names any.
 #[derive(Clone, Copy, Debug, PartialEq, Eq)]
 pub enum WorkbookFault {
     Size(Details),
@@ -17,6 +18,7 @@ pub enum WorkbookFault {
     Store(StoreFault),
 }
 
+// A fault as it is printed.
 impl From<WorkbookFault> for Refusal {
     ghost from_gives = { λ e r. r ≡ refusal_of e };
 

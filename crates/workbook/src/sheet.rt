@@ -11,6 +11,7 @@ use mapping::{AXIOM_WORDS, in_sizes};
 use std::alloc::{AllocError, Global};
 use translator::Place;
 
+// The limits of a sheet, and of a clause.
 const MOST_VARIABLES: usize = 255;
 
 const MOST_ENTRIES: usize = 1024;
