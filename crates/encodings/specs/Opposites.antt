@@ -1,6 +1,7 @@
 -- The opposites of literals: one of them is true exactly when the literals are not all true.
 use Rattle.std.specs.Prelude.{◌≡◌, ℕ, zero, suc, Bool, true, false, not, ◌&&◌, ◌||◌, List, [], ◌∷◌, map, length, ℤ, pos, negsuc, ◌==◌, nat_le, slice_index, refl}
-use Rattle.std.proofs.Common.{ap, ap₂, ◌∙◌}
+use Rattle.std.proofs.Common.{sym, ap, ap₂, ◌∙◌}
+use Rattle.std.proofs.Math.Bool.{not-not}
 use Rattle.std.proofs.lemmas.List.{length-map}
 use Rattle.std.proofs.lemmas.Bool.{and_parts}
 use Rattle.formula.specs.Boolean.{opposite, number, true_literal, local}
@@ -11,10 +12,6 @@ use Rattle.formula.specs.declared.signed.Sign.TheVariants.{Plus, Minus}
 use Rattle.mapping.specs.Forms.{true_form, members}
 use Rattle.encodings.specs.ListedForms.{form_by}
 
-not_twice : (b : Bool) → b ≡ not (not b)
-not_twice true = refl
-not_twice false = refl
-
 not_and : (a b : Bool) → (not a || not b) ≡ not (a && b)
 not_and true b = refl
 not_and false b = refl
@@ -23,7 +20,7 @@ not_and false b = refl
 pub opposite_true : (bits : List ℕ) (w : ℕ) (l : ℤ) → local w l ≡ true → true_literal bits (opposite l) ≡ not (true_literal bits l)
 opposite_true bits w (pos zero) h = h
 opposite_true bits w (pos (suc n)) h = refl
-opposite_true bits w (negsuc n) h = not_twice (1 == slice_index bits n)
+opposite_true bits w (negsuc n) h = sym (not-not (1 == slice_index bits n))
 
 pub some_opposites : (bits : List ℕ) (w : ℕ) (ls : List ℤ) → every (local w) ls ≡ true →
     some (true_literal bits) (map opposite ls) ≡ not (every (true_literal bits) ls)

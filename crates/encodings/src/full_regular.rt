@@ -60,6 +60,7 @@ impl Mapping for FullRegular {
         let Some(size) = Size::new(size) else {
             return 0;
         };
+        // kept: tried over chunks_exact_mut(3), after which nothing is known of the words (`returns-clause-memory` stayed open).
         let mut count = 0;
         for j in 2..size.count {
             count += write_clause(&[less_than(j + 1), at_least(j)], &mut memory[count..]);

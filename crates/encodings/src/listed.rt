@@ -53,9 +53,8 @@ pub fn write_form<L: Listed>(
     let literals = lists.literals(choice);
     let count = literals.len();
     places[..count].copy_from_slice(literals.as_slice());
-    match sign {
-        Sign::Plus => {}
-        Sign::Minus => turn(&mut places[..count]),
+    if let Sign::Minus = sign {
+        turn(&mut places[..count]);
     }
     Shape {
         kind: Kind::from(sign),

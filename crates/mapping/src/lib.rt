@@ -35,6 +35,7 @@ impl From<Sign> for Kind {
 }
 
 // The kind of a form and the number of its literals.
+// kept: the number stands apart from the literals, since these lie in places that are handed in and keep what is behind them.
 #[derive(Clone, Copy, Debug, PartialEq, Eq)]
 pub struct Shape {
     pub kind: Kind,
@@ -42,6 +43,7 @@ pub struct Shape {
 }
 
 // The words that the axioms of one size may have, and the literals that a form may have.
+// kept: arrays of these sizes are handed in, since no heap is below; each word behind what is written is promised to stay.
 pub const AXIOM_WORDS: usize = 8192;
 
 pub const FORM_LITERALS: usize = 8;
