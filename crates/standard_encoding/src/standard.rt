@@ -10,6 +10,7 @@ ghost use Rattle.encodings.specs.Values.{value_literal};
 ghost use Rattle.encodings.proofs.StandardLaws.{standard_lawful};
 ghost use Rattle.standard_encoding.specs.Narrow.{value_narrow};
 
+use arrayvec::ArrayVec;
 use encodings::{Listed, write_clause, write_form};
 use formula::Sign;
 use mapping::{AXIOM_WORDS, Choice, FORM_LITERALS, Mapping, Shape, Size, in_sizes};
@@ -23,9 +24,10 @@ impl Listed for Standard {
 
     ghost narrow = { value_narrow };
 
-    fn write_list(&self, choice: Choice, places: &mut [i32; FORM_LITERALS]) -> usize {
-        places[0] = choice.value as i32;
-        1
+    fn literals(&self, choice: Choice) -> ArrayVec<i32, FORM_LITERALS> {
+        let mut literals = ArrayVec::new();
+        literals.push(choice.value as i32);
+        literals
     }
 }
 

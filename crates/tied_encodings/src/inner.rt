@@ -5,6 +5,7 @@ ghost use Rattle.encodings.proofs.RegularLaws.{full_regular_tieable};
 ghost use Rattle.tied_encodings.specs.Narrow.{inner_narrow};
 
 use super::moves::move_words;
+use arrayvec::ArrayVec;
 use encodings::{FullRegular, Listed};
 use formula::Sign;
 use full_encodings::FullLogarithmic;
@@ -32,9 +33,13 @@ impl<M: Inner> Listed for InnerLists<M> {
 
     ghost narrow = { inner_narrow M.meaning M.tieable };
 
-    fn write_list(&self, choice: Choice, places: &mut [i32; FORM_LITERALS]) -> usize {
-        let shape = self.0.form(choice.size, Sign::Plus, choice.value, places);
-        move_words(&mut places[..shape.count], choice.size);
-        shape.count
+    fn literals(&self, choice: Choice) -> ArrayVec<i32, FORM_LITERALS> {
+        let Choice { size, value } = choice;
+        let mut places = [0; FORM_LITERALS];
+        let shape = self.0.form(size, Sign::Plus, value, &mut places);
+        move_words(&mut places[..shape.count], size);
+        let mut literals = ArrayVec::from(places);
+        literals.truncate(shape.count);
+        literals
     }
 }

@@ -46,11 +46,10 @@ impl<M: Inner> Tied<M> {
         ensures count { result ≡ words_of (tie (value_literal choice.value) (inner_list M.meaning choice.size choice.value)) }
         ensures memory { memory.new ≡ over (flat (tie (value_literal choice.value) (inner_list M.meaning choice.size choice.value))) memory.old }
     {
-        let mut places = [0; FORM_LITERALS];
-        let count = InnerLists(self.0).write_list(choice, &mut places);
+        let others = InnerLists(self.0).literals(choice);
         let tie = Tie {
             literal: choice.value as i32,
-            others: &places[..count],
+            others: others.as_slice(),
         };
         tie.write(memory)
     }

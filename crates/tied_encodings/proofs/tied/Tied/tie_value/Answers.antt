@@ -10,7 +10,6 @@ use Rattle.mapping.specs.Memory.{flat, over}
 use Rattle.encodings.specs.Limits.{size_high, value_low, value_high}
 use Rattle.encodings.specs.Ties.{inner_list, tie}
 use Rattle.encodings.specs.Values.{value_literal}
-use Rattle.tied_encodings.proofs.Fronts.{front_is}
 use Rattle.tied_encodings.proofs.TieWords.{tie_words}
 use Rattle.tied_encodings.specs.Narrow.{inner_narrow}
 use Rattle.tied_encodings.proofs.tied.Tied.tie_value.Goals as goal
@@ -29,10 +28,10 @@ invariant_of-tie g c =
     let i = c.args.choice.value in
     let s = c.args.choice.size_in_range in
     let v = c.args.choice.value_in_range in
-    let said = c.write_list-count.ensures in
+    let is : c.as_slice.result.now ≡ inner_list M m i = c.as_slice.ensures.value ∙ c.literals-others.ensures in
     record {
       narrow = and_from _ _ (ap (local 127) (own_word m i s v) ∙ own_narrow m i s v)
-          (ap (every (local 127)) (front_is (inner_list M m i) _ _ _ said.count said.places) ∙ inner_narrow M g.met.M.Inner.tieable m i s v);
+          (ap (every (local 127)) is ∙ inner_narrow M g.met.M.Inner.tieable m i s v);
     }
 
 pub write-requires : goal.write-requires
@@ -40,16 +39,15 @@ write-requires g c =
     let M = g.M.Mapping.meaning in
     let m = c.args.choice.size in
     let i = c.args.choice.value in
-    let said = c.write_list-count.ensures in
-    omega (arith, ap length (front_is (inner_list M m i) _ _ _ said.count said.places), tie_words (value_literal i) (inner_list M m i))
+    let is : c.as_slice.result.now ≡ inner_list M m i = c.as_slice.ensures.value ∙ c.literals-others.ensures in
+    omega (arith, ap length is, tie_words (value_literal i) (inner_list M m i))
 
 pub returns : goal.returns
 returns g c =
     let M = g.M.Mapping.meaning in
     let m = c.args.choice.size in
     let i = c.args.choice.value in
-    let said = c.write_list-count.ensures in
-    let is = front_is (inner_list M m i) _ _ _ said.count said.places in
+    let is : c.as_slice.result.now ≡ inner_list M m i = c.as_slice.ensures.value ∙ c.literals-others.ensures in
     let own = own_word m i c.args.choice.size_in_range c.args.choice.value_in_range in
     record {
       count = c.write.ensures.count ∙ (ap (λ ls. 4 * length ls + 2) is ∙ sym (tie_words (value_literal i) (inner_list M m i)));

@@ -1,5 +1,5 @@
 -- The inner reading, confirmed by the values' bits.
-use Rattle.std.proofs.Common.{◌≡◌, take, Some, None, sym, refl, ap, ◌∙◌}
+use Rattle.std.proofs.Common.{◌≡◌, ap, ◌∙◌}
 use Rattle.mapping.specs.Meanings.{guarded}
 use Rattle.encodings.specs.Ties.{tied}
 use Rattle.tied_encodings.proofs.OneBit.{reading_short, reading_none, reading_some}
