@@ -15,6 +15,7 @@ use encodings::{Listed, write_clause, write_form};
 use formula::Sign;
 use mapping::{AXIOM_WORDS, Choice, FORM_LITERALS, Mapping, Shape, Size, in_sizes};
 
+// A Boolean for each value, and no other.
 #[derive(Clone, Copy, Debug, PartialEq, Eq)]
 pub struct Standard;
 
@@ -52,6 +53,7 @@ fn write_exclusions_of(choice: Choice, memory: &mut [i32]) -> usize
 {
     let Choice { size, value } = choice;
     let mut count = 0;
+    // kept: tried as a fold; that its closure may be called at each turn stayed open (`fold-requires-clause-callable`).
     for later in value + 1..=size {
         let pair = [-(value as i32), -(later as i32)];
         count += write_clause(&pair, &mut memory[count..]);
@@ -66,6 +68,7 @@ fn write_exclusions(size: Size, memory: &mut [i32]) -> usize
     ensures memory { memory.new ≡ over (flat (exclusions size.count)) memory.old }
 {
     let mut count = 0;
+    // kept: tried as a fold; that its closure may be called at each turn stayed open (`fold-requires-clause-callable`).
     for value in 1..size.count {
         let choice = Choice {
             size: size.count,

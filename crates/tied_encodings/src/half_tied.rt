@@ -9,7 +9,7 @@ use encodings::write_form;
 use formula::Sign;
 use mapping::{AXIOM_WORDS, FORM_LITERALS, Mapping, Shape};
 
-// A tied mapping, but for its minus forms.
+// A tied mapping whose minus form of a value is any of the opposites of its inner literals.
 #[derive(Clone, Copy, Debug, PartialEq, Eq)]
 pub struct HalfTied<M>(pub Tied<M>);
 

@@ -23,7 +23,6 @@ pub struct Tied<M>(pub M);
 
 // Whether the bit at a place, counted from 1, is on and every other off.
 fn is_only(bits: &[u8], place: u32) -> bool
-    requires { length bits.now ≤ 64 }
     ensures { result ≡ only 0 place bits.now }
 {
     bits.iter().enumerate().all(|(before, bit)| *bit == u8::from(before + 1 == place as usize))
@@ -61,6 +60,7 @@ impl<M: Inner> Tied<M> {
         ensures memory { memory.new ≡ over (flat (ties M.meaning size.count)) memory.old }
     {
         let mut count = 0;
+        // kept: tried as a fold; that its closure may be called at each turn stayed open (`fold-requires-clause-callable`).
         for value in 1..=size.count {
             let choice = Choice {
                 size: size.count,

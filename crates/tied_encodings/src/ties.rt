@@ -23,6 +23,7 @@ impl Tie<'_> {
         ensures memory { memory.new ≡ over (flat (map (λ y. opposite self.now.literal ∷ y ∷ []) self.now.others.now)) memory.old }
     {
         let mut count = 0;
+        // kept: tried as a fold; that its closure may be called at each turn stayed open (`fold-requires-clause-callable`).
         for other in self.others {
             count += write_clause(&[-self.literal, *other], &mut memory[count..]);
         }
