@@ -1,4 +1,4 @@
--- How code holds a form: its kind, how many literals it has, and those, over its variable's own Booleans. Assumes nothing.
+-- How code holds a form: its kind and its literals over its variable's own Booleans. Assumes nothing.
 use Rattle.std.specs.Prelude.{◌≡◌, ◌+◌, ◌*◌, ◌^◌, ◌≤◌, true, List, ◌++◌, map, length, ℤ, nat_lt}
 use Rattle.std.specs.List.{AllByRecursion}
 use Rattle.formula.specs.Boolean.{Clause, number, words_of}

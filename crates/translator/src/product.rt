@@ -14,7 +14,7 @@ use store::{Store, StoreFault};
 // A clause of a product has at most so many literals: those of each form.
 const CLAUSE_LITERALS: usize = CLAUSE_FORMS * FORM_LITERALS;
 
-// The words of the clauses of a product of at most 16 forms: as many clauses as the splits multiply to, each with its literals and one for its end.
+// The words of a product of at most 16 forms: as many clauses as the splits multiply to, each with its literals and one for its end.
 pub(crate) fn count_words(forms: &[PlacedForm]) -> u64
     requires { length forms.now ≤ 16 }
     ensures { result ≡ words_of (distributed (map form_in forms.now)) }

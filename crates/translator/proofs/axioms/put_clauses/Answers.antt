@@ -1,8 +1,7 @@
-use Rattle.std.proofs.Common.{◌≡◌, ℕ, ◌+◌, ◌-◌, List, length, ◌++◌, take, drop, ℤ, Option, sym, refl, ap, ◌∙◌, arith, take-append-drop}
+use Rattle.std.proofs.Common.{◌≡◌, ℕ, ◌+◌, ◌-◌, List, length, ◌++◌, take, drop, ℤ, Option, Err, Ok, sym, refl, ap, ◌∙◌, arith, take-append-drop}
 use borrow.Rule.Slice.PartMut.{put_mid}
 use Rattle.std.specs.List.{position}
 use Rattle.std.proofs.lemmas.List.{take_rest}
-use Rattle.translator.proofs.Rooms.{never_ok}
 use Rattle.translator.proofs.Worded.{is_end, put_ok, going_more, going_all}
 use Rattle.translator.proofs.axioms.put_clauses.Goals as goal
 
@@ -22,7 +21,7 @@ pub returns-in_err-put : goal.returns-in_err-put
 returns-in_err-put g c =
     let h = c.loop-length.invariant in
     let ok = put_ok _ _ _ _ _ _ _ _ h (left c.loop-length.begin c.loop-length.words _ c.in-Some.ensures) c.put.result _ (part _ _ _ _ h.kept) c.put.ensures.answer in
-    never_ok _ tt (sym c.in_err-put.was ∙ ok)
+    let both : Err c.in_err-put.field-0.0 ≡ Ok tt = sym c.in_err-put.was ∙ ok in absurd (cc)
 
 pub loop-length-preserved : goal.loop-length-preserved
 loop-length-preserved g c =
