@@ -1,8 +1,9 @@
-use Rattle.std.proofs.Common.{◌≡◌, ◌-◌, ◌<◌, length, take, ap, ◌∙◌, arith}
+use Rattle.std.proofs.Common.{◌≡◌, ◌-◌, ◌<◌, ◌≤◌, length, take, ap, ◌∙◌, arith}
 use Rattle.store.specs.Stores.{after_cut}
 use Rattle.text_store.specs.Bytes.{Closed, PieceFrom}
 use Rattle.text_store.specs.ByteStores.{byte_contents}
 use Rattle.text_store.specs.Texts.{text_line, text_list}
+use Rattle.text_store.specs.TextStores.{IsKept}
 use Rattle.text_store.proofs.Fronts.{fronted, kept}
 use Rattle.text_store.proofs.Held.{cut_words, cut_front, cut_contents}
 use Rattle.text_store.proofs.Legibility.{text_legible}
@@ -28,20 +29,24 @@ piece c = rw (held c) at c.last_piece-last.ensures.piece
 before : (c : After-last_piece-last) → Closed 10 (take c.last_piece-last.result.start (take c.self.inside.held c.self.inside.bytes.items))
 before c = rw (held c) at c.last_piece-last.ensures.before
 
+-- the last clause is taken off the words, the front and the contents
+done : (c : After-last_piece-last) → (c.last_piece-last.result.lows ≤ c.self.inside.words) × IsKept c.self.inside.bytes.items c.last_piece-last.result.start (c.self.inside.words - c.last_piece-last.result.lows) (c.self.inside.count - 1) × (byte_contents text_list c.self.inside.bytes.items c.last_piece-last.result.start ≡ after_cut (c.self.inside.count - 1) (byte_contents text_list c.self.inside.bytes.items c.self.inside.held))
+done c =
+    let front = fronted c.self.invariant in (
+      cut_words text_legible front _ _ (some c) (piece c) (before c),
+      kept (cut_front text_legible front _ _ (some c) (piece c) (before c)),
+      cut_contents text_legible front _ _ (some c) (piece c) (before c),
+    )
+
 pub overflow_sub-self : goal.overflow_sub-self
-overflow_sub-self c =
-    let at = (goal.at.overflow_sub-self c).After-last_piece-last in
-    cut_words text_legible (fronted c.self.invariant) _ _ (some at) (piece at) (before at)
+overflow_sub-self c = (done (goal.at.overflow_sub-self c).After-last_piece-last).0
 
 pub invariant_of-self : goal.invariant_of-self
-invariant_of-self c =
-    let at = (goal.at.invariant_of-self c).After-last_piece-last in
-    kept (cut_front text_legible (fronted c.self.invariant) _ _ (some at) (piece at) (before at))
+invariant_of-self c = (done (goal.at.invariant_of-self c).After-last_piece-last).1
 
 pub returns : goal.returns
 returns c =
-    let at = (goal.at.returns c).After-last_piece-last in
     let K = byte_contents text_list c.self.inside.bytes.items c.self.inside.held in
-    cut_contents text_legible (fronted c.self.invariant) _ _ (some at) (piece at) (before at)
+    (done (goal.at.returns c).After-last_piece-last).2
     ∙ ap (λ n. after_cut (n - 1) K) c.self.invariant.counted
     ∙ ap (λ J. after_cut (length J.list - 1) J) c.self.view_is

@@ -5,9 +5,9 @@ use borrow.Rule.Slice.PartMut.{put_mid}
 use Rattle.formula.specs.Boolean.{words}
 use Rattle.store.specs.Stores.{appended}
 use Rattle.text_store.specs.Bytes.{at_place}
-use Rattle.text_store.specs.ByteStores.{byte_largest, fit_clause, byte_capacity}
-use Rattle.text_store.specs.Texts.{text_clause, text_most}
-use Rattle.text_store.specs.TextStores.{terms_of}
+use Rattle.text_store.specs.ByteStores.{byte_largest, fit_clause, byte_capacity, byte_contents}
+use Rattle.text_store.specs.Texts.{text_clause, text_list, text_most}
+use Rattle.text_store.specs.TextStores.{IsKept, text_terms, terms_of}
 use Rattle.text_store.proofs.Fits.{unfit_none, numbers_taken, words_taken}
 use Rattle.text_store.proofs.Fronts.{fronted, kept}
 use Rattle.text_store.proofs.Held.{put_within, put_count, put_front, put_contents}
@@ -24,6 +24,15 @@ enough c = rw c.self.invariant.worded (rw (← c.self.view_is) at (words_taken (
 
 room : (c : In_ok-check_room) → c.self.inside.held + length (text_clause c.args.clause.now) ≤ length (vec_items c.self.inside.bytes)
 room c = put_within text_legible (fronted c.self.invariant) c.args.clause.now (fit c) (enough c)
+
+-- the clause is put behind the front, and the contents are as many words and clauses more
+module _ (c : In_ok-check_room) (end : ℕ) (after : List ℕ) where
+  done : end ≡ c.self.inside.held + length (text_clause c.args.clause.now) → after ≡ at_place c.self.inside.held (text_clause c.args.clause.now) (vec_items c.self.inside.bytes) → IsKept after end (c.self.inside.words + words c.args.clause.now) (c.self.inside.count + 1) × (byte_contents text_list after end ≡ appended (text_terms (length (vec_items c.self.inside.bytes))) (byte_contents text_list (vec_items c.self.inside.bytes) c.self.inside.held) c.args.clause.now)
+  done end_is after_is =
+      let front = fronted c.self.invariant in (
+        kept (put_front text_legible front c.args.clause.now (fit c) (enough c) end after end_is after_is),
+        put_contents text_legible front c.args.clause.now (fit c) (enough c) end after end_is after_is,
+      )
 
 -- the buffer holds what was written
 module _ (c : After-write_clause) where
@@ -51,12 +60,10 @@ overflow_add-self-3 c =
 pub invariant_of-self : goal.invariant_of-self
 invariant_of-self c =
     let at = goal.at.invariant_of-self c in
-    let ok = at.In_ok-check_room in
-    kept (put_front text_legible (fronted c.self.invariant) c.args.clause.now (fit ok) (enough ok) _ _ (ap (λ n. c.self.inside.held + n) c.write_clause.ensures.count_is) (stored at.After-write_clause (room ok)))
+    (done at.In_ok-check_room _ _ (ap (λ n. c.self.inside.held + n) c.write_clause.ensures.count_is) (stored at.After-write_clause (room at.In_ok-check_room))).0
 
 pub returns-clause-after : goal.returns-clause-after
 returns-clause-after c =
     let at = goal.at.returns-clause-after c in
-    let ok = at.In_ok-check_room in
-    put_contents text_legible (fronted c.self.invariant) c.args.clause.now (fit ok) (enough ok) _ _ (ap (λ n. c.self.inside.held + n) c.write_clause.ensures.count_is) (stored at.After-write_clause (room ok))
+    (done at.In_ok-check_room _ _ (ap (λ n. c.self.inside.held + n) c.write_clause.ensures.count_is) (stored at.After-write_clause (room at.In_ok-check_room))).1
     ∙ ap (λ K. appended (terms_of K) K c.args.clause.now) c.self.view_is
