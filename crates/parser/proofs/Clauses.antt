@@ -9,10 +9,6 @@ use Rattle.parser.specs.Fields.{literal_of, literals_of}
 abbrev on : List Literal → Option (List Literal) → Option (List Literal)
 on items o = given o (λ ls. Some (items ++ ls))
 
-on_none : (o : Option (List Literal)) → on [] o ≡ o
-on_none None = refl
-on_none (Some ls) = refl
-
 on_more : (items : List Literal) (l : Literal) (o : Option (List Literal)) → on items (given o (λ ls. Some (l ∷ ls))) ≡ on (items ++ l ∷ []) o
 on_more items l None = refl
 on_more items l (Some ls) = ap Some (sym (append_assoc items (l ∷ []) ls))
@@ -20,9 +16,6 @@ on_more items l (Some ls) = ap Some (sym (append_assoc items (l ∷ []) ls))
 -- the literals of the first i fields and those of the others are all literals
 pub record Reading (fields : List (List ℕ)) (items : List Literal) (i : ℕ) : Type 0 where
   pub whole : literals_of fields ≡ on items (literals_of (drop i fields))
-
-pub reading_none : (fields : List (List ℕ)) (items : List Literal) → items ≡ [] → Reading fields items 0
-reading_none fields items none = record { whole = sym (ap (λ (ls : List Literal). on ls (literals_of fields)) none ∙ on_none (literals_of fields)) }
 
 module _ (fields : List (List ℕ)) (items : List Literal) (i : ℕ) (h : Reading fields items i) (field : List ℕ) (within : i < length fields) (here : field ≡ get_or fields i field) where
   by_field : (o : Option Literal) → o ≡ literal_of field → literals_of fields ≡ on items (given o (λ l. given (literals_of (drop (i + 1) fields)) (λ ls. Some (l ∷ ls))))

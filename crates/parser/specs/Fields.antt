@@ -1,7 +1,7 @@
 -- The fields of a line: numbers and literals. Assumes nothing.
 use Rattle.std.specs.Prelude.{ℕ, ◌+◌, ◌-◌, ◌*◌, Bool, cond, ◌&&◌, List, [], ◌∷◌, length, Some, None, Option, nat_le}
+use Rattle.std.specs.List.{list_all}
 use Rattle.formula.specs.Signs.{sign_of}
-use Rattle.formula.specs.Tests.{every}
 use Rattle.formula.specs.declared.signed.Literal.{Literal}
 use Rattle.parser.specs.Cuts.{given, halves}
 
@@ -15,7 +15,7 @@ spelled n (b ∷ bs) = spelled (n * 10 + (b - 48)) bs
 
 -- a number has 1 to 5 digits
 abbrev pub number_of : List ℕ → Option ℕ
-number_of bs = cond (nat_le 1 (length bs) && nat_le (length bs) 5 && every is_digit bs) (Some (spelled 0 bs)) None
+number_of bs = cond (nat_le 1 (length bs) && nat_le (length bs) 5 && list_all is_digit bs) (Some (spelled 0 bs)) None
 
 -- a literal is a sign, the number of a variable, a colon (58) and a value
 abbrev pub literal_of : List ℕ → Option Literal

@@ -1,28 +1,41 @@
 // Numbers and literals.
-ghost use Rattle.std.specs.Prelude.{◌≡◌};
+ghost use Rattle.std.specs.Prelude.{◌≡◌, position, ◌==◌};
 ghost use Rattle.std.specs.Option.{option_map};
+ghost use Rattle.std.specs.List.{list_all};
 ghost use Rattle.parser.specs.Cuts.{halves};
-ghost use Rattle.parser.specs.Fields.{number_of, literal_of};
+ghost use Rattle.parser.specs.Fields.{is_digit, number_of, literal_of};
 
 use formula::{Literal, Sign};
 
 const MOST_DIGITS: usize = 5;
 
+fn are_digits(field: &[u8]) -> bool
+    ensures { result ≡ list_all is_digit field.now }
+{
+    field.iter().all(u8::is_ascii_digit)
+}
+
 // The number that 1 to 5 digits spell.
 pub(crate) fn read_number(field: &[u8]) -> Option<u32>
     ensures { result ≡ number_of field.now }
 {
-    if field.len() > MOST_DIGITS || !field.iter().all(u8::is_ascii_digit) {
+    if field.len() > MOST_DIGITS || !are_digits(field) {
         return None;
     }
     str::from_utf8(field).ok()?.parse().ok()
+}
+
+fn find_mark(bytes: &[u8], mark: u8) -> Option<usize>
+    ensures { result ≡ position (λ b. b == mark) bytes.now }
+{
+    bytes.iter().position(|byte| *byte == mark)
 }
 
 // The bytes before the first mark and those behind it, where there is one.
 fn split_once(bytes: &[u8], mark: u8) -> Option<(&[u8], &[u8])>
     ensures { option_map (λ x. (x.0.now, x.1.now)) result ≡ halves mark bytes.now }
 {
-    let place = bytes.iter().position(|byte| *byte == mark)?;
+    let place = find_mark(bytes, mark)?;
     Some((&bytes[..place], &bytes[place + 1..]))
 }
 
