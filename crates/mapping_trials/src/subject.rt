@@ -32,19 +32,34 @@ pub fn fillers<const N: usize>() -> [i32; N] {
     array::from_fn(filler)
 }
 
-// The memory that a mapping leaves when it is asked for axioms, and the words that it answers.
+// The memory that a mapping leaves when it is asked for axioms, and the number of words that it answers.
+// kept: a mapping writes into memory that is handed in, of a fixed size, and all of that memory is compared
 #[derive(Drop)]
 pub struct Axioms {
     pub memory: [i32; AXIOM_WORDS],
     pub count: usize,
 }
 
-// A form as a mapping gives it: its literals are the first ones of the places, so many.
+impl Axioms {
+    // The axioms, each ended by a 0.
+    pub fn words(&self) -> &[i32] {
+        self.memory.get(..self.count).unwrap_or(&[])
+    }
+}
+
+// A form as a mapping gives it: its kind, the number of its literals, and the places that they are written to.
+// kept: a mapping writes into places that are handed in, of a fixed number, and all of them are compared
 #[derive(Clone, Copy, Debug, PartialEq, Eq)]
 pub struct Formed {
     pub kind: Kind,
     pub count: usize,
     pub places: [i32; FORM_LITERALS],
+}
+
+impl Formed {
+    pub fn literals(&self) -> &[i32] {
+        self.places.get(..self.count).unwrap_or(&[])
+    }
 }
 
 impl<M: Mapping + Copy> Subject<M> {

@@ -1,76 +1,72 @@
 // Rows of calls on a workbook with a larger store than the program's. Of the limit on literals the program can show nothing: 4,096 of
 // them are more than 16,384 bytes of input, and more words than its store takes.
-use crate::lines::Signed;
-use crate::sheet::{Refused, Sheet, put_header, put_refusal};
-use crate::tally::Tally;
-use crate::text::{put, put_all};
 use encodings::FullRegular;
 use formula::{Literal, Refusal, Sign};
+use reference::encodings::Encoding;
+use reference::forms;
+use reference::lines::Signed;
+use reference::refusals::Fault;
+use reference::sheet::Sheet;
+use reference::tally::{Case, Tally};
 use rows::{Answer, Call, Row, make_row};
 use std::alloc::{AllocError, Global};
+use std::fmt::Write;
 use store::Store;
 use text_store::TextStore;
 use workbook::Parts;
 
+// The bytes of the store.
 const BYTES: usize = 1_000_000;
 
 // The words of so many bytes, nine to a word.
-const WORDS: i64 = 111_111;
+const WORDS: usize = 111_111;
 
-fn state(sheet: &mut Sheet, heap: Global, clause: &[Literal]) -> Option<Refused> {
-    let mut literals = Vec::new(heap);
-    for literal in clause {
-        let signed = Signed {
-            plus: matches!(literal.sign, Sign::Plus),
-            variable: literal.variable as i64,
-            value: literal.value as i64,
-        };
-        put(&mut literals, signed);
+// A literal as the second translator takes it.
+fn signed(literal: &Literal) -> Signed {
+    Signed {
+        sign: match literal.sign {
+            Sign::Plus => forms::Sign::Plus,
+            Sign::Minus => forms::Sign::Minus,
+        },
+        variable: i64::from(literal.variable),
+        value: i64::from(literal.value),
     }
-    sheet.state(literals.as_slice())
+}
+
+// Makes a call of the second translator.
+fn call(heap: Global, sheet: &mut Sheet, call: &Call) -> Result<(), Fault> {
+    match call {
+        Call::Declare(size) => sheet.declare(i64::from(*size)),
+        Call::State(clause) => {
+            let literals: Vec<Signed> = clause.iter().map(signed).collect(heap)?;
+            sheet.state(literals.as_slice())
+        }
+    }
 }
 
 // What the second translator makes of a row, each call a line.
-fn wanted(heap: Global, row: &[Call]) -> Vec<u8> {
-    let mut all = Vec::new(heap);
-    let mut sheet = Sheet::new(heap, WORDS);
-    let mut place = 0i64;
-    for call in row {
-        place = place.saturating_add(1);
-        let refused = match call {
-            Call::Declare(size) => sheet.declare(*size as i64),
-            Call::State(clause) => state(&mut sheet, heap, clause),
-        };
-        if let Some(refused) = refused {
-            sheet.note(place, refused);
-        }
+fn wanted(heap: Global, row: &[Call]) -> Result<String, AllocError> {
+    let mut sheet = Sheet::new(heap, Encoding::FR, WORDS);
+    for (place, step) in (1..).zip(row) {
+        let outcome = call(heap, &mut sheet, step);
+        sheet.note(place, outcome)?;
     }
-    sheet.print(&mut all);
-    all
+    sheet.to_string(heap)
 }
 
-fn refused(refusal: Refusal) -> Refused {
-    Refused {
-        number: u32::from(refusal.reason) as i64,
-        layer: u8::from(refusal.reason.layer()),
-        first: i64::try_from(refusal.details.first).unwrap_or(0),
-        second: i64::try_from(refusal.details.second).unwrap_or(0),
-    }
-}
-
-fn put_refusals(all: &mut Vec<u8>, answers: &[Answer]) {
-    let mut place = 0i64;
-    for answer in answers {
-        place = place.saturating_add(1);
+// Adds the refusals among answers, each with the place of its call.
+fn put_refusals(text: &mut String, answers: &[Answer]) -> Result<(), AllocError> {
+    for (place, answer) in (1usize..).zip(answers) {
         if let Err(fault) = answer {
-            put_refusal(all, place, refused(Refusal::from(*fault)));
+            let refusal = Refusal::from(*fault);
+            writeln!(text, "c refused {place} {refusal}")?;
         }
     }
+    Ok(())
 }
 
 // What the library makes of it.
 fn made(heap: Global, row: &[Call]) -> Result<Vec<u8>, AllocError> {
-    let mut all = Vec::new(heap);
     let store = TextStore::new(vec![in heap; 0u8; BYTES]?);
     let sheet = workbook::Sheet::new(heap)?;
     let mut answers = vec![in heap; Ok(0); row.len()]?;
@@ -81,31 +77,35 @@ fn made(heap: Global, row: &[Call]) -> Result<Vec<u8>, AllocError> {
                 store: _,
                 sheet: _,
             } = parts;
+            Ok(Vec::new(heap))
         }
         Ok(row) => {
             let Row { workbook, clauses } = row;
-            let booleans = workbook.booleans() as i64;
+            let booleans = workbook.booleans();
             let Parts {
                 mapping: _,
                 store,
                 sheet: _,
             } = workbook.finish();
-            put_refusals(&mut all, answers.as_slice());
-            put_header(&mut all, booleans, i64::try_from(clauses).unwrap_or(0));
-            put_all(&mut all, store.held());
+            let mut text = String::new(heap);
+            put_refusals(&mut text, answers.as_slice())?;
+            writeln!(text, "p cnf {booleans} {clauses}")?;
+            let mut all = text.into_bytes();
+            all.extend_from_slice(store.held())?;
+            Ok(all)
         }
     }
-    Ok(all)
 }
 
-fn compare(tally: &mut Tally, row: &[Call]) {
-    tally.input.clear();
-    tally.wanted = wanted(tally.heap, row);
-    tally.made.clear();
-    if let Ok(made) = made(tally.heap, row) {
-        tally.made = made;
-    }
-    tally.compare();
+// Compares what is printed of a row.
+fn compare(tally: &mut Tally, row: &[Call]) -> Result<(), AllocError> {
+    let wanted = wanted(tally.heap, row)?;
+    let made = made(tally.heap, row)?;
+    tally.compare(&Case {
+        input: b"",
+        wanted: wanted.as_bytes(),
+        made: made.as_slice(),
+    })
 }
 
 // A step of a row: so many times a variable of a size, or a clause of so many literals.
@@ -115,6 +115,7 @@ enum Step {
     Literals(u32, usize),
 }
 
+// The rows, by their steps.
 static ROWS: [[Step; 7]; 4] = [
     [
         Step::Size(1, 2),
@@ -155,7 +156,11 @@ static ROWS: [[Step; 7]; 4] = [
 ];
 
 // The calls of the steps, whose clauses are the front of one.
-fn row_of<'a>(heap: Global, steps: &[Step], clause: &'a [Literal]) -> Vec<Call<'a>> {
+fn row_of<'a>(
+    heap: Global,
+    steps: &[Step],
+    clause: &'a [Literal],
+) -> Result<Vec<Call<'a>>, AllocError> {
     let mut row = Vec::new(heap);
     for step in steps {
         let (times, call) = match *step {
@@ -166,25 +171,22 @@ fn row_of<'a>(heap: Global, steps: &[Step], clause: &'a [Literal]) -> Vec<Call<'
             ),
         };
         for _ in 0..times {
-            put(&mut row, call);
+            row.push(call)?;
         }
     }
-    row
+    Ok(row)
 }
 
-fn rows() -> &'static [[Step; 7]] {
-    &ROWS
-}
-
-pub fn run_all(tally: &mut Tally) {
+pub fn run_all(tally: &mut Tally) -> Result<(), AllocError> {
     let literal = Literal {
         variable: 1,
         value: 1,
         sign: Sign::Minus,
     };
     let clause = [literal; 17];
-    for steps in rows() {
-        let row = row_of(tally.heap, steps, &clause);
-        compare(tally, row.as_slice());
+    for steps in ROWS.iter() {
+        let row = row_of(tally.heap, steps, &clause)?;
+        compare(tally, row.as_slice())?;
     }
+    Ok(())
 }

@@ -1,9 +1,10 @@
 // Inputs that mean harm: lines that are none, wrong beginnings, changed bytes, lengths at the limit, junk.
-use crate::making::{Maker, any_byte};
+use crate::library;
+use crate::making::{BYTES, Maker};
 use crate::random::Random;
-use crate::tables::{pad, put_pattern};
-use crate::tally::Tally;
-use crate::text::{put, put_all};
+use crate::tables::{fill, pad};
+use reference::tally::Tally;
+use std::alloc::AllocError;
 
 // Where a line is put.
 const SHEETS: [&str; 6] = [
@@ -15,6 +16,7 @@ const SHEETS: [&str; 6] = [
     "%~m FR~d 3~s +1:1~",
 ];
 
+// Lines, most of which cannot be read.
 static LINES: [&str; 96] = [
     "",
     " ",
@@ -114,24 +116,18 @@ static LINES: [&str; 96] = [
     "\u{e9}\u{ff}\u{20ac}",
 ];
 
-fn lines() -> &'static [&'static str] {
-    &LINES
-}
-
-fn try_lines_in(tally: &mut Tally, sheet: &str) {
-    for line in lines() {
-        tally.input.clear();
-        put_pattern(&mut tally.input, sheet, line);
-        tally.run();
-    }
-}
-
-pub fn try_lines(tally: &mut Tally) {
+// Puts each line into each sheet.
+pub fn try_lines(tally: &mut Tally) -> Result<(), AllocError> {
     for sheet in SHEETS {
-        try_lines_in(tally, sheet);
+        for line in LINES.iter() {
+            let input = fill(tally.heap, sheet, line)?;
+            library::run(tally, input.as_bytes())?;
+        }
     }
+    Ok(())
 }
 
+// What long inputs begin with, what they go on with, and their lengths.
 const FRONTS: [&str; 4] = ["", "m FR~", "m FR~s", "m FR~d 3~s -1:2"];
 
 const FILLERS: [&str; 9] = [
@@ -148,70 +144,75 @@ const FILLERS: [&str; 9] = [
 
 const LENGTHS: [usize; 8] = [0, 1, 4, 5, 100, 16383, 16384, 16385];
 
-fn try_lengths_of(tally: &mut Tally, front: &str, filler: &str) {
+fn try_lengths_of(tally: &mut Tally, front: &str, filler: &str) -> Result<(), AllocError> {
     for length in LENGTHS {
-        pad(&mut tally.input, front, filler, length);
-        tally.run();
+        let input = pad(tally.heap, front, filler, length)?;
+        library::run(tally, input.as_slice())?;
     }
+    Ok(())
 }
 
-pub fn try_lengths(tally: &mut Tally) {
+pub fn try_lengths(tally: &mut Tally) -> Result<(), AllocError> {
     for front in FRONTS {
         for filler in FILLERS {
-            try_lengths_of(tally, front, filler);
+            try_lengths_of(tally, front, filler)?;
         }
     }
+    Ok(())
 }
 
 // Puts each byte between two parts of a sheet, and behind the first alone.
-fn insert_bytes(tally: &mut Tally, before: &[u8], after: &[u8]) {
+fn insert_bytes(tally: &mut Tally, before: &[u8], after: &[u8]) -> Result<(), AllocError> {
     for byte in 0..=255u8 {
-        tally.input.clear();
-        put_all(&mut tally.input, before);
-        put(&mut tally.input, byte);
-        tally.run();
-        put_all(&mut tally.input, after);
-        tally.run();
+        let mut input = before.to_vec(tally.heap)?;
+        input.push(byte)?;
+        library::run(tally, input.as_slice())?;
+        input.extend_from_slice(after)?;
+        library::run(tally, input.as_slice())?;
     }
+    Ok(())
 }
 
 // A good sheet.
 const GOOD: &[u8] = b"m FR\nd 3\nd 02\ns +1:2 -2:1\ns\ns -1:3\n";
 
 // Puts each byte in front of each byte of a good sheet, and in its place.
-pub fn try_changes(tally: &mut Tally) {
-    let good = GOOD;
-    for place in 0..good.len() {
-        let before = good.get(..place).unwrap_or(good);
-        let after = good.get(place..).unwrap_or(good);
-        insert_bytes(tally, before, after);
-        let after = after.get(1..).unwrap_or(good);
-        insert_bytes(tally, before, after);
+pub fn try_changes(tally: &mut Tally) -> Result<(), AllocError> {
+    for place in 0..GOOD.len() {
+        let (before, after) = GOOD.split_at(place);
+        insert_bytes(tally, before, after)?;
+        insert_bytes(tally, before, after.get(1..).unwrap_or(after))?;
     }
+    Ok(())
 }
 
-// Adds bytes at random, or if not wild only of those that lines are made of and a few others.
-fn put_junk(text: &mut Vec<u8>, random: &mut Random, wild: bool) {
+// Which bytes junk has: any, or only those that lines are made of and a few others.
+#[derive(Clone, Copy)]
+enum Junk {
+    Wild,
+    Likely,
+}
+
+// Adds bytes at random.
+fn put_junk(text: &mut Vec<u8>, random: &mut Random, junk: Junk) -> Result<(), AllocError> {
     for _ in 0..random.below(80) {
-        let byte = if wild {
-            (random.below(256) & 255) as u8
-        } else {
-            any_byte(random)
+        let byte = match junk {
+            Junk::Wild => random.byte(),
+            Junk::Likely => random.byte_of(BYTES),
         };
-        put(text, byte);
+        text.push(byte)?;
     }
+    Ok(())
 }
 
-// Junk with and without a good beginning.
-pub fn try_junk(tally: &mut Tally, maker: &mut Maker, rounds: u64) {
-    for round in 0..rounds {
-        tally.input.clear();
-        put_pattern(
-            &mut tally.input,
-            if round % 4 == 0 { "" } else { "m FR~d 3~" },
-            "",
-        );
-        put_junk(&mut tally.input, &mut maker.random, round % 8 == 1);
-        tally.run();
+// Eight inputs of junk: two of them have no good beginning, and one has any bytes.
+pub fn try_junk(tally: &mut Tally, maker: &mut Maker) -> Result<(), AllocError> {
+    for round in 0..8 {
+        let front = if round % 4 == 0 { "" } else { "m FR\nd 3\n" };
+        let junk = if round == 1 { Junk::Wild } else { Junk::Likely };
+        let mut input = front.as_bytes().to_vec(tally.heap)?;
+        put_junk(&mut input, &mut maker.random, junk)?;
+        library::run(tally, input.as_slice())?;
     }
+    Ok(())
 }

@@ -11,64 +11,78 @@
 mod boundaries;
 mod calls;
 mod hostile;
-mod lines;
+mod library;
 mod making;
 mod models;
 mod random;
 mod random_sheets;
 mod refused_lines;
-mod sheet;
 mod tables;
-mod tally;
-mod text;
-mod wanted;
 
 use making::Maker;
+use reference::tally::Tally;
+use std::alloc::AllocError;
 use std::io;
 use std::io::Write;
-use tally::Tally;
 
-// Where the random numbers start, and how many rounds there are.
-#[derive(Clone, Copy)]
-struct Plan {
-    seed: u64,
-    rounds: u64,
+// Where the random numbers start.
+const SEED: u64 = 20;
+
+// Tries something, and reports it as a group.
+fn group<F: FnOnce(&mut Tally) -> Result<(), AllocError>>(
+    tally: &mut Tally,
+    name: &str,
+    trials: F,
+) -> Result<(), AllocError>
+    requires { F.IsAlwaysCallable trials }
+{
+    trials(tally)?;
+    tally.close(name)
 }
 
-const PLAN: Plan = Plan {
-    seed: 20,
-    rounds: 20,
-};
-
-fn try_random(tally: &mut Tally, maker: &mut Maker, rounds: u64) {
-    random_sheets::try_small(tally, maker, rounds.saturating_mul(20));
-    tally.close("small sheets and their assignments");
-    random_sheets::try_kinds(tally, maker, rounds.saturating_mul(5));
-    tally.close("random sheets");
-    refused_lines::check_all(tally, maker, rounds.saturating_mul(5));
-    tally.close("without a refused line");
-    hostile::try_junk(tally, maker, rounds.saturating_mul(50));
-    tally.close("junk");
+// Tries something made at random so many times, and reports it as a group.
+fn rounds<F: Fn(&mut Tally, &mut Maker) -> Result<(), AllocError>>(
+    tally: &mut Tally,
+    maker: &mut Maker,
+    name: &str,
+    count: usize,
+    trial: F,
+) -> Result<(), AllocError>
+    requires { F.IsAlwaysCallable trial }
+{
+    for _ in 0..count {
+        trial(tally, maker)?;
+    }
+    tally.close(name)
 }
 
-fn try_written(tally: &mut Tally) {
-    boundaries::run_all(tally);
-    tally.close("limits of a sheet");
-    calls::run_all(tally);
-    tally.close("limits of rows of calls");
-    hostile::try_lines(tally);
-    tally.close("hostile lines");
-    hostile::try_changes(tally);
-    tally.close("changed bytes");
-    hostile::try_lengths(tally);
-    tally.close("lengths");
+fn try_random(tally: &mut Tally, maker: &mut Maker) -> Result<(), AllocError> {
+    let small = "small sheets and their assignments";
+    rounds(tally, maker, small, 400, random_sheets::try_small)?;
+    rounds(tally, maker, "random sheets", 100, random_sheets::try_kinds)?;
+    rounds(
+        tally,
+        maker,
+        "without a refused line",
+        100,
+        refused_lines::try_faulty,
+    )?;
+    rounds(tally, maker, "junk", 125, hostile::try_junk)
+}
+
+fn try_written(tally: &mut Tally) -> Result<(), AllocError> {
+    group(tally, "limits of a sheet", boundaries::run_all)?;
+    group(tally, "limits of rows of calls", calls::run_all)?;
+    group(tally, "hostile lines", hostile::try_lines)?;
+    group(tally, "changed bytes", hostile::try_changes)?;
+    group(tally, "lengths", hostile::try_lengths)
 }
 
 fn main(rt: HostRuntime) -> io::Result<()> {
     let mut tally = Tally::new(rt.alloc());
-    let mut maker = Maker::new(rt.alloc(), PLAN.seed);
-    try_random(&mut tally, &mut maker, PLAN.rounds);
-    try_written(&mut tally);
-    tally.finish();
-    rt.stdout().write_all(tally.report.as_slice())
+    let mut maker = Maker::new(rt.alloc(), SEED);
+    try_random(&mut tally, &mut maker)?;
+    try_written(&mut tally)?;
+    tally.finish()?;
+    rt.stdout().write_all(tally.report.as_bytes())
 }

@@ -1,8 +1,10 @@
 // Sheets made at random.
 use crate::making::{Kind, Maker};
-use crate::models;
-use crate::tally::Tally;
+use crate::{library, models};
+use reference::tally::{Case, Tally};
+use std::alloc::AllocError;
 
+// Short and long sheets, and sheets of few and of many values, literals or faults.
 static KINDS: [Kind; 6] = [
     Kind {
         lines: 12,
@@ -48,20 +50,16 @@ static KINDS: [Kind; 6] = [
     },
 ];
 
-fn kinds() -> &'static [Kind] {
-    &KINDS
-}
-
-// Of each kind so many sheets.
-pub fn try_kinds(tally: &mut Tally, maker: &mut Maker, rounds: u64) {
-    for _ in 0..rounds {
-        for kind in kinds() {
-            maker.write(&mut tally.input, kind);
-            tally.run();
-        }
+// A sheet of each kind.
+pub fn try_kinds(tally: &mut Tally, maker: &mut Maker) -> Result<(), AllocError> {
+    for kind in KINDS.iter() {
+        let input = maker.sheet(kind)?;
+        library::run(tally, input.as_slice())?;
     }
+    Ok(())
 }
 
+// Sheets of few Booleans.
 const SMALL: Kind = Kind {
     lines: 14,
     size: 6,
@@ -70,18 +68,18 @@ const SMALL: Kind = Kind {
     spoiled: 8,
 };
 
-// Small sheets, with every assignment of their Booleans.
-pub fn try_small(tally: &mut Tally, maker: &mut Maker, rounds: u64) {
-    for _ in 0..rounds {
-        maker.write(&mut tally.input, &SMALL);
-        tally.run();
-        if tally.input.starts_with(b"m FR\n") {
-            let (all, agree) = models::check(
-                tally.heap,
-                tally.input.as_slice(),
-                tally.made.as_slice(),
-            );
-            tally.count(all, agree);
-        }
+// A small sheet, with every assignment of its Booleans.
+pub fn try_small(tally: &mut Tally, maker: &mut Maker) -> Result<(), AllocError> {
+    let input = maker.sheet(&SMALL)?;
+    let made = library::run(tally, input.as_slice())?;
+    if !input.starts_with(b"m FR\n") {
+        return Ok(());
     }
+    let score = models::check(tally.heap, input.as_slice(), made.as_slice())?;
+    let case = Case {
+        input: input.as_slice(),
+        wanted: made.as_slice(),
+        made: made.as_slice(),
+    };
+    tally.count(score, &case)
 }

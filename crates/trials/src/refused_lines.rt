@@ -1,71 +1,61 @@
 // A refused line changes nothing: without it the output is the same, but for its refusal and the numbers of lines.
 use crate::making::{Kind, Maker};
 use crate::models::Printed;
-use crate::tally::{Tally, library};
-use crate::text::put;
-use std::alloc::Global;
+use reader::translate_text;
+use reference::tally::{Case, Tally};
+use std::alloc::{AllocError, Global};
 
-// An input without one of its lines.
-fn without(heap: Global, input: &[u8], place: i64) -> Vec<u8> {
+// An input without the line of a number, counted from 1.
+fn without(heap: Global, input: &[u8], number: i64) -> Result<Vec<u8>, AllocError> {
     let mut kept = Vec::new(heap);
-    let mut line = 1i64;
-    for byte in input {
-        if line != place {
-            put(&mut kept, *byte);
-        }
-        if *byte == b'\n' {
-            line = line.saturating_add(1);
+    for (place, line) in (1..).zip(input.split_inclusive(|byte| *byte == b'\n')) {
+        if place != number {
+            kept.extend_from_slice(line)?;
         }
     }
-    kept
+    Ok(kept)
 }
 
-// An output without the numbers of lines, and without one of its refusals, counted from 1, or with all for 0.
-fn masked(heap: Global, output: &[u8], left_out: i64) -> Vec<u8> {
+// Adds a refusal without the number of its line, which is its third word.
+fn put_masked(text: &mut Vec<u8>, refusal: &[u8]) -> Result<(), AllocError> {
+    for (place, word) in refusal.split_inclusive(|byte| *byte == b' ').enumerate() {
+        if place != 2 {
+            text.extend_from_slice(word)?;
+        }
+    }
+    Ok(())
+}
+
+// An output without the numbers of lines, and without one of its refusals, counted from 0.
+fn masked(heap: Global, output: &[u8], left_out: Option<usize>) -> Result<Vec<u8>, AllocError> {
     let mut kept = Vec::new(heap);
-    let mut refusals = 0i64;
-    let mut first = b'\n';
-    let mut spaces = 0i64;
-    for byte in output {
-        if first == b'\n' {
-            first = *byte;
-            spaces = 0;
-            refusals = refusals.saturating_add(if first == b'c' { 1 } else { 0 });
-        }
-        if *byte == b' ' {
-            spaces = spaces.saturating_add(1);
-        }
-        if first != b'c' || spaces != 2 && refusals != left_out {
-            put(&mut kept, *byte);
-        }
-        if *byte == b'\n' {
-            first = b'\n';
+    for (place, line) in output.split_inclusive(|byte| *byte == b'\n').enumerate() {
+        if !line.starts_with(b"c") {
+            kept.extend_from_slice(line)?;
+        } else if left_out != Some(place) {
+            put_masked(&mut kept, line)?;
         }
     }
-    kept
+    Ok(kept)
 }
 
-// Takes a refused line away, the one of a refusal counted from 1.
-fn check_without(tally: &mut Tally, input: &[u8], output: &[u8], refusal: i64, place: i64) {
-    tally.input = without(tally.heap, input, place);
-    let made = library(tally.heap, tally.input.as_slice());
-    tally.made = masked(tally.heap, made.as_slice(), 0);
-    tally.wanted = masked(tally.heap, output, refusal);
-    tally.compare();
-}
-
-// Takes each refused line away, one at a time.
-fn check(tally: &mut Tally, input: &[u8]) {
-    let output = library(tally.heap, input);
-    let mut printed = Printed::new(tally.heap);
-    printed.read(output.as_slice());
-    let mut refusal = 0i64;
-    for place in printed.refused.as_slice() {
-        refusal = refusal.saturating_add(1);
-        if *place > 1 {
-            check_without(tally, input, output.as_slice(), refusal, *place);
+// Takes each refused line away, one at a time. All refusals are printed first, in the order of their lines.
+fn check(tally: &mut Tally, input: &[u8]) -> Result<(), AllocError> {
+    let heap = tally.heap;
+    let output = translate_text(heap, input)?;
+    let printed = Printed::read(heap, output.as_slice())?;
+    for (refusal, number) in printed.refused.iter().enumerate() {
+        if *number > 1 {
+            let input = without(heap, input, *number)?;
+            let made = translate_text(heap, input.as_slice())?;
+            tally.compare(&Case {
+                input: input.as_slice(),
+                wanted: masked(heap, output.as_slice(), Some(refusal))?.as_slice(),
+                made: masked(heap, made.as_slice(), None)?.as_slice(),
+            })?;
         }
     }
+    Ok(())
 }
 
 // Sheets with many faults.
@@ -77,10 +67,8 @@ const FAULTY: Kind = Kind {
     spoiled: 60,
 };
 
-pub fn check_all(tally: &mut Tally, maker: &mut Maker, rounds: u64) {
-    let mut input = Vec::new(tally.heap);
-    for _ in 0..rounds {
-        maker.write(&mut input, &FAULTY);
-        check(tally, input.as_slice());
-    }
+// A sheet with many faults.
+pub fn try_faulty(tally: &mut Tally, maker: &mut Maker) -> Result<(), AllocError> {
+    let input = maker.sheet(&FAULTY)?;
+    check(tally, input.as_slice())
 }

@@ -1,36 +1,36 @@
 // Inputs that are written as patterns.
-use crate::text::{put, put_all};
+use std::alloc::{AllocError, Global};
 
-// Adds a pattern's text, in which ~ stands for a newline and % for a line.
-pub fn put_pattern(text: &mut Vec<u8>, pattern: &str, line: &str) {
-    for byte in pattern.as_bytes() {
-        match *byte {
-            b'~' => put(text, b'\n'),
-            b'%' => put_all(text, line.as_bytes()),
-            other => put(text, other),
-        }
-    }
+// A pattern's text, in which ~ stands for a newline and % for a line.
+pub fn fill(heap: Global, pattern: &str, line: &str) -> Result<String, AllocError> {
+    let lines = pattern.replace(heap, '~', "\n")?;
+    lines.as_str().replace(heap, '%', line)
 }
 
 // A pattern so many times.
 pub type Part = (u32, &'static str);
 
-pub fn put_parts(text: &mut Vec<u8>, parts: &[Part]) {
+// The text of a sheet's parts, in which ~ stands for a newline.
+pub fn join(heap: Global, parts: &[Part]) -> Result<String, AllocError> {
+    let mut patterns = String::new(heap);
     for (times, pattern) in parts {
         for _ in 0..*times {
-            put_pattern(text, pattern, "");
+            patterns.push_str(pattern)?;
         }
     }
+    patterns.as_str().replace(heap, '~', "\n")
 }
 
-// Writes a text of a length: a front, and a filler again and again.
-pub fn pad(text: &mut Vec<u8>, front: &str, filler: &str, length: usize) {
-    text.clear();
-    put_pattern(text, front, "");
-    for _ in 0..length {
-        if text.len() < length {
-            put_pattern(text, filler, "");
-        }
-    }
-    text.truncate(length);
+// A text of a length: a front, and a filler again and again.
+pub fn pad(heap: Global, front: &str, filler: &str, length: usize) -> Result<Vec<u8>, AllocError> {
+    let front = fill(heap, front, "")?;
+    let filler = fill(heap, filler, "")?;
+    let fillers = filler.as_bytes().iter().cycle();
+    front
+        .as_bytes()
+        .iter()
+        .chain(fillers)
+        .take(length)
+        .copied()
+        .collect(heap)
 }
