@@ -54,9 +54,7 @@ found_none bits e = none_at 0 bits (is_none (ltb (position_or_len on bits) (leng
     is_none true h = cc
     is_none false h = refl
 
--- that byte is alone
-pub alone_some : (a b : Bool) (n : ℕ) → a ≡ b → then_some a n ≡ cond b (Some n) None
-alone_some true true n e = refl
-alone_some false false n e = refl
-alone_some true false n e = cc
-alone_some false true n e = cc
+-- a value where a test passes
+pub then_some_is : (b : Bool) (n : ℕ) → then_some b n ≡ cond b (Some n) None
+then_some_is true n = refl
+then_some_is false n = refl

@@ -11,7 +11,7 @@ use Rattle.encodings.specs.Guard.{reading_no_row}
 use Rattle.encodings.specs.Rows.{row_refused}
 use Rattle.encodings.proofs.TiedReadings.{agree_alike, alone, confirmed, tied_read_cut}
 use Rattle.encodings.specs.Ties.{tied, Tieable}
-use Rattle.standard_encoding.proofs.FirstOn.{alone_some}
+use Rattle.standard_encoding.proofs.FirstOn.{then_some_is}
 use Rattle.tied_encodings.specs.Marks.{only}
 
 -- bit by bit, each beside the number of those before it
@@ -60,5 +60,5 @@ module _ (M : Meaning) (T : Tieable M) (m : ℕ) (s : is_size m ≡ true) (bits 
 
     pub reading_some : (i : ℕ) (t : Bool) → Some i ≡ M.reading m rest → t ≡ only 0 i own → then_some t i ≡ (guarded (tied M)).reading m bits
     reading_some i t e alone-is =
-        alone_some t (row (length own) own && alone i own) i (alone-is ∙ only_is i own) ∙
+        ap (λ b. then_some b i) (alone-is ∙ only_is i own) ∙ then_some_is (row (length own) own && alone i own) i ∙
         sym (read ∙ ap (λ (p : Option ℕ). confirmed p own) (sym e))

@@ -1,10 +1,11 @@
 -- The first byte that is no 0 decides the reading.
 use Rattle.std.proofs.Common.{◌≡◌, ◌+◌, sym, refl, ◌∙◌, ap, ◌&&◌, eqb, get_or, drop}
+use Rattle.std.specs.Bool.{then_some}
 use Rattle.std.specs.List.{list_all}
 use Rattle.std.proofs.lemmas.List.{take_rest}
 use Rattle.std.proofs.lemmas.Bool.{and_left, eq-eqb, ne_eqb}
 use Rattle.encodings.proofs.StandardLaws.{reading_searched}
-use Rattle.standard_encoding.proofs.FirstOn.{off, found_some, found_none, alone_some}
+use Rattle.standard_encoding.proofs.FirstOn.{off, found_some, found_none, then_some_is}
 use Rattle.standard_encoding.proofs.standard.find_one.Goals as goal
 use Rattle.standard_encoding.proofs.standard.find_one.Goals.{then-bits-place-eq1, else-bits-place-eq1}
 
@@ -24,5 +25,5 @@ returns c =
           (ne_eqb (get_or bits k 0) 1 w.if-bits-place-eq1.false ∙ sym (and_left (eqb (get_or bits k 0) 1) _ (ne_eqb (get_or bits k 0) 1 w.if-bits-place-eq1.false)))
     ] in
     c.then_some.ensures ∙
-    (alone_some _ _ (k + 1) alone ∙
+    (ap (λ b. then_some b (k + 1)) alone ∙ then_some_is _ (k + 1) ∙
     sym (reading_searched _ bits c.requires refl ∙ found_some bits k (sym c.in_ok-place.ensures)))
