@@ -1,4 +1,5 @@
 use Rattle.std.proofs.Common.{◌≡◌, ℕ, ◌-◌, ◌^◌, ◌<◌, ◌++◌, ◌∷◌, List, [], length, get_or, take, drop, ℤ, pos, sym, ap, ◌∙◌, subst, arith, w32, SFits, to_z, of_z, rules}
+use Rattle.std.proofs.lemmas.Grind.{common_steps}
 use Rattle.std.proofs.lemmas.Int.{to_z-of_z}
 use Rattle.std.proofs.lemmas.List.{nil_from_length}
 use Rattle.std.proofs.lemmas.Slice.{first_rest}
@@ -14,15 +15,15 @@ use Rattle.translator.proofs.product.+put_product.Goals as goal
 parts : (ps : List PlacedForm) (p : PlacedForm) → 0 < length ps → p ≡ get_or ps 0 p → ps ≡ p ∷ take (length ps - 1) (drop 1 ps)
 parts ps p some is = first_rest ps p some ∙ ap (λ q. q ∷ take (length ps - 1) (drop 1 ps)) (sym is)
 
--- a literal as the loop reads it
-read : (xs ls : List ℤ) (i : ℕ) → SFits w32 (get_or xs i (pos 0)) → xs ≡ ls → to_z w32 (of_z w32 (get_or xs i (pos 0))) ≡ get_or ls i (pos 0)
-read xs ls i fits is = to_z-of_z w32 _ fits ∙ ap (λ ys. get_or ys i (pos 0)) is
+-- a literal that a loop reads, and what is pushed for it: it is moved behind the Booleans before its form's own
+read : (p : PlacedForm) (xs : List ℤ) (i : ℕ) → SFits w32 (get_or xs i (pos 0)) → get_or xs i (pos 0) ≡ get_or p.literals.items i (pos 0) →
+    shifted p.start (to_z w32 (of_z w32 (get_or xs i (pos 0)))) ≡ moved p i
+read p xs i fits same = ap (shifted p.start) (to_z-of_z w32 _ fits ∙ same)
 
--- a literal that is pushed, moved behind the Booleans before its form's own
-pushed : (p : PlacedForm) (front' front xs : List ℤ) (i : ℕ) (l : ℤ) → SFits w32 (get_or xs i (pos 0)) → SFits w32 l → xs ≡ p.literals.items →
-    l ≡ shifted p.start (to_z w32 (of_z w32 (get_or xs i (pos 0)))) → front' ≡ front ++ to_z w32 (of_z w32 l) ∷ [] → front' ≡ front ++ moved p i ∷ []
-pushed p front' front xs i l fits moved_fits is shift push =
-    push ∙ ap (λ z. front ++ z ∷ []) (to_z-of_z w32 l moved_fits ∙ shift ∙ ap (shifted p.start) (read xs p.literals.items i fits is))
+pushed : (p : PlacedForm) (front' front xs : List ℤ) (i : ℕ) (l : ℤ) → l ≡ shifted p.start (to_z w32 (of_z w32 (get_or xs i (pos 0)))) →
+    front' ≡ front ++ to_z w32 (of_z w32 l) ∷ [] → SFits w32 l → SFits w32 (get_or xs i (pos 0)) → get_or xs i (pos 0) ≡ get_or p.literals.items i (pos 0) →
+    front' ≡ front ++ moved p i ∷ []
+pushed p front' front xs i l shift push moved_fits fits same = push ∙ ap (λ z. front ++ z ∷ []) (to_z-of_z w32 l moved_fits ∙ shift ∙ read p xs i fits same)
 
 pub returns-in_default : goal.returns-in_default
 returns-in_default g t c =
@@ -36,50 +37,46 @@ returns-in_default g t c =
 
 pub shift-requires : goal.shift-requires
 shift-requires g t c =
-    let fits : SFits w32 (get_or c.as_slice-literals.result.now c.loop-choice.choice-index (pos 0)) = search rules in
+    let i = c.loop-choice.choice-index in
     let p = c.first-item.result in
     let is = parts c.args.forms.now p (search rules) c.first-item.is in
-    let one = read _ p.literals.items _ fits c.as_slice-literals.ensures.value in
-    subst (λ z. number (shifted p.start z) < 2 ^ 31) (sym one)
-    (small _ _ _ _ _ _ is c.requires c.loop-choice.choice-index (omega (arith, ap length c.as_slice-literals.ensures.value)))
+    let within : i < length p.literals.items = grind (arith, common_steps) in
+    subst (λ z. number z < 2 ^ 31) (sym (read p _ i (search rules) (grind (arith, common_steps)))) (small _ _ _ _ _ _ is c.requires i within)
 
 pub put_product-requires : goal.put_product-requires
 put_product-requires g t c κs within =
-    let fits : SFits w32 (get_or c.as_slice-literals.result.now c.loop-choice.choice-index (pos 0)) = search rules in
-    let out : SFits w32 c.shift.result = search rules in
+    let i = c.loop-choice.choice-index in
     let p = c.first-item.result in
     let is = parts c.args.forms.now p (search rules) c.first-item.is in
-    let push = pushed p _ _ _ c.loop-choice.choice-index _ fits out c.as_slice-literals.ensures.value c.shift.ensures c.push.ensures.items in
-    (search rules, (search rules, ready_one _ _ _ _ _ _ is c.requires _ _ _ _ c.loop-choice.invariant _ (omega (arith, ap length c.as_slice-literals.ensures.value)) push))
+    let inside : i < length p.literals.items = grind (arith, common_steps) in
+    let push = pushed p _ _ _ i _ c.shift.ensures c.push.ensures.items (search rules) (search rules) (grind (arith, common_steps)) in
+    (search rules, (search rules, ready_one _ _ _ _ _ _ is c.requires _ _ _ _ c.loop-choice.invariant _ inside push))
 
 pub loop-choice-preserved : goal.loop-choice-preserved
 loop-choice-preserved g t c =
-    let fits : SFits w32 (get_or c.as_slice-literals.result.now c.loop-choice.choice-index (pos 0)) = search rules in
-    let out : SFits w32 c.shift.result = search rules in
+    let i = c.loop-choice.choice-index in
     let p = c.first-item.result in
     let is = parts c.args.forms.now p (search rules) c.first-item.is in
-    let push = pushed p _ _ _ c.loop-choice.choice-index _ fits out c.as_slice-literals.ensures.value c.shift.ensures c.push.ensures.items in
+    let inside : i < length p.literals.items = grind (arith, common_steps) in
+    let push = pushed p _ _ _ i _ c.shift.ensures c.push.ensures.items (search rules) (search rules) (grind (arith, common_steps)) in
     let cut = c.truncate.ensures.items ∙ (λ j. take (c.len-used.ensures.value j) (c.put_product.ensures.kept j)) in
-    going_more _ _ _ _ _ _ is c.requires _ _ _ _ c.loop-choice.invariant _ (omega (arith, ap length c.as_slice-literals.ensures.value)) push _ _ _
-    c.put_product.ensures.same c.put_product.ensures.after cut
+    going_more _ _ _ _ _ _ is c.requires _ _ _ _ c.loop-choice.invariant _ inside push _ _ _ c.put_product.ensures.same c.put_product.ensures.after cut
 
 pub shift-requires-in-loop-literal : goal.shift-requires-in-loop-literal
 shift-requires-in-loop-literal g t c =
-    let fits : SFits w32 (get_or c.as_slice-literals.result.now c.loop-literal.literal-index (pos 0)) = search rules in
+    let i = c.loop-literal.literal-index in
     let p = c.first-item.result in
     let is = parts c.args.forms.now p (search rules) c.first-item.is in
-    let one = read _ p.literals.items _ fits c.as_slice-literals.ensures.value in
-    subst (λ z. number (shifted p.start z) < 2 ^ 31) (sym one)
-    (small _ _ _ _ _ _ is c.requires c.loop-literal.literal-index (omega (arith, ap length c.as_slice-literals.ensures.value)))
+    let within : i < length p.literals.items = grind (arith, common_steps) in
+    subst (λ z. number z < 2 ^ 31) (sym (read p _ i (search rules) (grind (arith, common_steps)))) (small _ _ _ _ _ _ is c.requires i within)
 
 pub loop-literal-preserved : goal.loop-literal-preserved
 loop-literal-preserved g t c =
     let i = c.loop-literal.literal-index in
-    let fits : SFits w32 (get_or c.as_slice-literals.result.now i (pos 0)) = search rules in
-    let out : SFits w32 c.shift-in-loop-literal.result = search rules in
     let p = c.first-item.result in
-    let push = pushed p _ _ _ i _ fits out c.as_slice-literals.ensures.value c.shift-in-loop-literal.ensures c.push-in-loop-literal.ensures.items in
-    push ∙ ap (λ xs. xs ++ moved p i ∷ []) c.loop-literal.invariant ∙ own_more p c.args.front.now.items i (omega (arith, ap length c.as_slice-literals.ensures.value))
+    let within : i < length p.literals.items = grind (arith, common_steps) in
+    let push = pushed p _ _ _ i _ c.shift-in-loop-literal.ensures c.push-in-loop-literal.ensures.items (search rules) (search rules) (grind (arith, common_steps)) in
+    push ∙ ap (λ xs. xs ++ moved p i ∷ []) c.loop-literal.invariant ∙ own_more p c.args.front.now.items i within
 
 pub put_product-requires-in-AnyOf : goal.put_product-requires-in-AnyOf
 put_product-requires-in-AnyOf g t c κs within =
