@@ -1,4 +1,4 @@
--- Bytes in a buffer: a write at a place, and the pieces that a mark ends. Assumes nothing.
+-- Bytes in a buffer: a write at a place or at the front, and the pieces that a mark ends. Assumes nothing.
 use Rattle.std.specs.Prelude.{◌≡◌, ℕ, ◌+◌, ◌<◌, Bool, true, cond, not, ◌⊎◌, List, [], ◌∷◌, ◌++◌, length, take, drop, ◌==◌, nat_lt}
 use Rattle.formula.specs.Tests.{every, sum_of}
 

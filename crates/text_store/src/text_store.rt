@@ -1,5 +1,5 @@
 // The text store: what it keeps true, and its calls.
-ghost use Rattle.std.specs.Prelude.{◌≡◌, ℕ, ◌-◌, ◌<◌, length, vec_len};
+ghost use Rattle.std.specs.Prelude.{◌≡◌, ℕ, ◌-◌, ◌<◌, length, take, vec_len};
 ghost use Rattle.store.specs.Stores.{words_answer, put_answer, after_put, after_cut};
 ghost use Rattle.text_store.specs.ByteStores.{byte_bounded, byte_empty, StandsFor};
 ghost use Rattle.text_store.specs.Texts.{text_clause, text_most};
@@ -60,9 +60,11 @@ impl TextStore {
         }
     }
 
-    // The text of the clauses held.
+    // The text of the clauses held, which is the front of the buffer.
     pub fn held(&self) -> &[u8]
-        ensures { StandsFor text_clause result.now self.now.list }
+        ensures stands { StandsFor text_clause result.now self.now.list }
+        ensures front { take (length result.now) self.now.memory ≡ result.now }
+        ensures raw { self.now.raw ≡ self.now.list }
     {
         &self.bytes.as_slice()[..self.held]
     }
@@ -101,6 +103,7 @@ impl TextStore {
     }
 }
 
+// Writes a clause behind those that it holds, as a line of its own.
 impl Store for TextStore {
     ghost Cell = { ℕ };
 

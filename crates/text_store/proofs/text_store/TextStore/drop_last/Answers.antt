@@ -14,11 +14,11 @@ use Rattle.text_store.proofs.text_store.TextStore.drop_last.Goals.{After-last_pi
 pub last_piece-last-requires : goal.last_piece-last-requires
 last_piece-last-requires c =
     let list = c.args.self.now.list in
-    rw c.held.ensures.text (record { closed = closed_lines text_line 10 list; some = omega (arith, c.requires, lines_long text_line 10 list) })
+    rw c.held.ensures.stands.text (record { closed = closed_lines text_line 10 list; some = omega (arith, c.requires, lines_long text_line 10 list) })
 
 -- the held bytes, as the buffer has them
 held : (c : After-last_piece-last) → c.held.result.now ≡ take c.self.inside.held c.self.inside.bytes.items
-held c = rw (← c.self.view_is) at c.held.ensures.text ∙ c.self.invariant.whole
+held c = rw (← c.self.view_is) at c.held.ensures.stands.text ∙ c.self.invariant.whole
 
 some : (c : After-last_piece-last) → 0 < c.self.inside.count
 some c = omega (arith, c.requires, ap (λ K. length K.list) c.self.view_is, c.self.invariant.counted)

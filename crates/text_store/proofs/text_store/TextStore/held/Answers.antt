@@ -6,8 +6,8 @@ use Rattle.text_store.proofs.Held.{stands_for}
 use Rattle.text_store.proofs.Legibility.{text_legible}
 use Rattle.text_store.proofs.text_store.TextStore.held.Goals as goal
 
-pub returns : goal.returns
-returns c =
+pub returns-clause-stands : goal.returns-clause-stands
+returns-clause-stands c =
     let s = c.self.inside in
     subst (StandsFor text_clause (take s.held c.as_slice.result.now)) (ap (λ K. K.list) c.self.view_is)
     (subst (λ memory. StandsFor text_clause (take s.held memory) (text_list (take s.held s.bytes.items))) (sym c.as_slice.ensures.value) (stands_for text_legible (fronted c.self.invariant)))
