@@ -67,17 +67,12 @@ fn translate_lines<M: Mapping + Drop>(
 {
     let calls = list_calls(heap, lines)?;
     let mut answers = vec![in heap; Ok(0); calls.len()]?;
-    let store = make_store(heap)?;
-    let sheet = Sheet::new(heap)?;
-    let row = make_row(
-        1,
+    let parts = Parts {
         mapping,
-        store,
-        sheet,
-        calls.as_slice(),
-        answers.as_mut_slice(),
-    )
-    .unwrap();
+        store: make_store(heap)?,
+        sheet: Sheet::new(heap)?,
+    };
+    let row = make_row(1, parts, calls.as_slice(), answers.as_mut_slice()).unwrap();
     print_row(heap, row, lines, answers.as_slice())
 }
 

@@ -1,5 +1,5 @@
 -- Calls made one by one: what is left gives the whole. Assumes nothing.
-use Rattle.std.proofs.Common.{◌≡◌, ℕ, ◌+◌, ◌<◌, ◌≤◌, List, [], ◌∷◌, ◌++◌, map, length, get_or, take, drop, set, Result, sym, refl, ap, ◌∙◌, append_assoc, append-nil, arith, length-set, take-append-drop}
+use Rattle.std.proofs.Common.{◌≡◌, ℕ, ◌+◌, ◌<◌, ◌≤◌, List, [], ◌∷◌, ◌++◌, map, length, get_or, take, drop, set, Result, sym, ap, ◌∙◌, append_assoc, append-nil, arith, length-set, take-append-drop}
 use Rattle.std.proofs.lemmas.List.{drop-map, drop_more, drop_all, length-map, take_more_set, drop-set-lt, drop-drop, length-take-le}
 use Rattle.mapping.specs.Memory.{over}
 use Rattle.workbook.specs.declared.faults.WorkbookFault.{WorkbookFault}
@@ -18,9 +18,6 @@ module _ {Cell : Type 0} (D : Made Cell) (s₀ : State Cell) (row : List Call) (
     pub back : drop i answers ≡ drop i before
     pub after : after_row D s (drop i steps) ≡ after_row D s₀ steps
     pub long : length answers ≡ length before
-
-  pub going_none : Going D s₀ before 0
-  going_none = record { made = refl; front = refl; back = refl; after = refl; long = refl }
 
   module _ (D' : Made Cell) (s : State Cell) (answers : List (Result ℕ WorkbookFault)) (i : ℕ) (h : Going D' s answers i) where
     pub going_more : (d : Call) (a : Result ℕ WorkbookFault) (s' : State Cell) (D'' : Made Cell) → i < length row → i < length before →

@@ -60,24 +60,18 @@ pub struct Row<M, S> {
 // Where there are fewer places than calls, nothing is done and everything comes back.
 pub fn make_row<M: Mapping, S: Store>(
     book: u32,
-    mapping: M,
-    store: S,
-    sheet: Sheet,
+    parts: Parts<M, S>,
     row: &[Call],
     answers: &mut [Answer],
 ) -> Result<Row<M, S>, Parts<M, S>>
     ensures { MatchResult result
-        (λ x. Done (record { book = book; meaning = M.Mapping.meaning; terms = S.Store.terms store }) (S.Store.contents store) (map step_of row.now) answers.old answers.new (made_of M.Mapping.meaning S.Store.terms x.workbook) (state_of S.Store.contents x.workbook) x.clauses)
-        (λ x. (length answers.old < length row.now) × (answers.new ≡ answers.old) × (x.mapping ≡ mapping) × (x.store ≡ store) × (x.sheet ≡ sheet)) }
+        (λ x. Done (record { book = book; meaning = M.Mapping.meaning; terms = S.Store.terms parts.store }) (S.Store.contents parts.store) (map step_of row.now) answers.old answers.new (made_of M.Mapping.meaning S.Store.terms x.workbook) (state_of S.Store.contents x.workbook) x.clauses)
+        (λ x. (length answers.old < length row.now) × (answers.new ≡ answers.old) × (x ≡ parts)) }
 {
     if answers.len() < row.len() {
-        return Err(Parts {
-            mapping,
-            store,
-            sheet,
-        });
+        return Err(parts);
     }
-    let mut workbook = Workbook::new(book, mapping, store, sheet);
+    let mut workbook = Workbook::new(book, parts);
     make_calls(&mut workbook, row, answers);
     let clauses = workbook.stored_clauses();
     Ok(Row { workbook, clauses })

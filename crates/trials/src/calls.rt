@@ -67,10 +67,13 @@ fn put_refusals(text: &mut String, answers: &[Answer]) -> Result<(), AllocError>
 
 // What the library makes of it.
 fn made(heap: Global, row: &[Call]) -> Result<Vec<u8>, AllocError> {
-    let store = TextStore::new(vec![in heap; 0u8; BYTES]?);
-    let sheet = workbook::Sheet::new(heap)?;
     let mut answers = vec![in heap; Ok(0); row.len()]?;
-    match make_row(1, FullRegular, store, sheet, row, answers.as_mut_slice()) {
+    let parts = Parts {
+        mapping: FullRegular,
+        store: TextStore::new(vec![in heap; 0u8; BYTES]?),
+        sheet: workbook::Sheet::new(heap)?,
+    };
+    match make_row(1, parts, row, answers.as_mut_slice()) {
         Err(parts) => {
             let Parts {
                 mapping: _,

@@ -28,17 +28,12 @@ pub struct Workbook<M, S> {
 
 impl<M: Mapping, S: Store> Workbook<M, S> {
     // A workbook of this number over a mapping and a store, which it clears, in the memory of a sheet, which it clears too.
-    pub fn new(book: u32, mapping: M, mut store: S, mut sheet: Sheet) -> Workbook<M, S>
-        ensures made { made_of M.Mapping.meaning S.Store.terms result ≡ record { book = book; meaning = M.Mapping.meaning; terms = S.Store.terms store } }
-        ensures state { state_of S.Store.contents result ≡ new_state (S.Store.contents store) }
+    pub fn new(book: u32, mut parts: Parts<M, S>) -> Workbook<M, S>
+        ensures made { made_of M.Mapping.meaning S.Store.terms result ≡ record { book = book; meaning = M.Mapping.meaning; terms = S.Store.terms parts.store } }
+        ensures state { state_of S.Store.contents result ≡ new_state (S.Store.contents parts.store) }
     {
-        store.clear();
-        sheet.clear();
-        let parts = Parts {
-            mapping,
-            store,
-            sheet,
-        };
+        parts.store.clear();
+        parts.sheet.clear();
         Workbook { book, parts }
     }
 

@@ -12,7 +12,7 @@ pub returns : goal.returns
 returns g c =
     let M = g.M.Mapping.meaning in
     let ss = map (option_map said_of) c.args.lines.now in
-    let store = c.in_ok-store.ensures in
+    let store = c.in_ok-make_store.ensures in
     let places = c.in_ok-answers.answers in
     let lent : length c.make_row.new.answers ≡ length c.as_mut_slice.result.now = c.make_row.auto.answers in
     let long : length c.as_mut_slice.result.now ≡ length (map step_of c.as_slice.result.now) =
