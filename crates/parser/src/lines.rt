@@ -12,7 +12,7 @@ use formula::Literal;
 use std::alloc::{AllocError, Global};
 
 // What a line says.
-#[derive(Drop)]
+#[derive(Debug, PartialEq, Eq, Drop)]
 pub enum Line {
     Mapping(Name),
     Declare(u32),
