@@ -35,7 +35,7 @@ impl fmt::Display for Refused {
 #[derive(Clone, Copy)]
 pub enum Fault {
     Refused(Refused),
-    OutOfMemory,
+    Memory(AllocError),
 }
 
 impl From<Refused> for Fault {
@@ -45,13 +45,13 @@ impl From<Refused> for Fault {
 }
 
 impl From<AllocError> for Fault {
-    fn from(_error: AllocError) -> Fault {
-        Fault::OutOfMemory
+    fn from(error: AllocError) -> Fault {
+        Fault::Memory(error)
     }
 }
 
 impl<T: Drop> From<AllocFailed<T>> for Fault {
-    fn from(_error: AllocFailed<T>) -> Fault {
-        Fault::OutOfMemory
+    fn from(error: AllocFailed<T>) -> Fault {
+        Fault::Memory(AllocError::from(error))
     }
 }

@@ -206,7 +206,7 @@ impl Sheet {
     pub fn note(&mut self, line: usize, outcome: Result<(), Fault>) -> Result<(), AllocError> {
         match outcome {
             Ok(()) => Ok(()),
-            Err(Fault::OutOfMemory) => Err(AllocError),
+            Err(Fault::Memory(error)) => Err(error),
             Err(Fault::Refused(refused)) => {
                 writeln!(self.refusals, "c refused {line} {refused}")
             }
