@@ -1,10 +1,10 @@
 // The mappings from sized variables to Booleans.
 #![tactic(auto)]
 
-pub mod clauses;
+mod clauses;
 pub mod digits;
 pub mod full_regular;
-pub mod listed;
+mod listed;
 pub mod names;
 
 pub use clauses::write_clause;

@@ -1,20 +1,21 @@
 // Forms by a list of literals for each value.
-ghost use Rattle.std.specs.Prelude.{◌≡◌, ℕ, ◌&&◌, true, List, [], ℤ, map, length, if◌then◌else◌};
+ghost use Rattle.std.specs.Prelude.{◌≡◌, ℕ, true, List, ℤ, map};
 ghost use Rattle.formula.specs.Boolean.{local, opposite};
 ghost use Rattle.formula.specs.Tests.{every};
-ghost use Rattle.mapping.specs.Forms.{any_of, members, shape_of};
+ghost use Rattle.mapping.specs.Forms.{members, shape_of};
 ghost use Rattle.mapping.specs.Meanings.{is_size, is_value};
 ghost use Rattle.mapping.specs.Memory.{over};
-ghost use Rattle.encodings.specs.ListedForms.{form_by};
+ghost use Rattle.encodings.specs.ListedForms.{listed_form};
 
 use arrayvec::ArrayVec;
 use formula::Sign;
 use mapping::{Choice, FORM_LITERALS, Kind, Shape};
 
-// For each value of each size, the literals that are all true at that value alone.
+// What lists literals for each value of each size, to be all true at that value alone.
 pub trait Listed {
     ghost list: { ℕ → ℕ → List ℤ };
 
+    // The literals of a value.
     fn literals(&self, choice: Choice) -> ArrayVec<i32, FORM_LITERALS>
         ensures { result.items ≡ list choice.size choice.value };
 
@@ -41,8 +42,8 @@ pub fn write_form<L: Listed>(
     value: u32,
     places: &mut [i32; FORM_LITERALS],
 ) -> Shape
-    ensures shape { result ≡ shape_of (if is_size size && is_value size value then form_by (L.list size value) sign else any_of []) }
-    ensures places { places.new ≡ over (members (if is_size size && is_value size value then form_by (L.list size value) sign else any_of [])) places.old }
+    ensures shape { result ≡ shape_of (listed_form L.list size sign value) }
+    ensures places { places.new ≡ over (members (listed_form L.list size sign value)) places.old }
 {
     let Some(choice) = Choice::new(size, value) else {
         return Shape {
