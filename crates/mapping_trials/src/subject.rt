@@ -142,7 +142,7 @@ impl<M: Mapping> Subject<M> {
         made: &T,
     ) -> Result<(), AllocError> {
         if wanted == made {
-            tally.agree(1);
+            tally.agree();
             return Ok(());
         }
         let heap = tally.heap;

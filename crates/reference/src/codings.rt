@@ -23,7 +23,7 @@ pub(crate) enum Row {
 #[derive(Clone, Copy)]
 pub struct Coding {
     encoding: Encoding,
-    pub size: i64,
+    pub(crate) size: i64,
 }
 
 impl Coding {

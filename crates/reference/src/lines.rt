@@ -18,6 +18,11 @@ pub enum Line {
     State(Vec<Signed>),
 }
 
+// A line without the newline that ends it.
+pub fn trimmed(line: &[u8]) -> &[u8] {
+    line.strip_suffix(b"\n").unwrap_or(line)
+}
+
 // A number of one to five digits.
 fn read_number(digits: &[u8]) -> Option<i64> {
     if digits.is_empty() || digits.len() > 5 {
@@ -45,7 +50,7 @@ fn read_literal(text: &[u8]) -> Option<Signed> {
     })
 }
 
-// Reads a line, which has no newline.
+// Reads a line without its newline.
 pub fn read(heap: Global, line: &[u8]) -> Result<Line, Fault> {
     if let Some(size) = line.strip_prefix(b"d ") {
         let size = read_number(size).ok_or(Refused::Unreadable)?;

@@ -1,6 +1,6 @@
 // What the program is to print for an input, by the second translator.
 use crate::encodings::Encoding;
-use crate::lines::read;
+use crate::lines::{read, trimmed};
 use crate::sheet::Sheet;
 use std::alloc::{AllocError, Global};
 
@@ -17,11 +17,6 @@ fn read_first(line: &[u8], known: &[Encoding]) -> Option<Encoding> {
         .iter()
         .copied()
         .find(|encoding| encoding.name().as_bytes() == name)
-}
-
-// A line without its newline.
-fn trimmed(line: &[u8]) -> &[u8] {
-    line.strip_suffix(b"\n").unwrap_or(line)
 }
 
 // What the program is to print for an input, where it knows some encodings.

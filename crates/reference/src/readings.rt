@@ -5,7 +5,7 @@ use std::alloc::{AllocError, Global};
 // A row of bits and its value.
 #[derive(Drop)]
 pub struct Code {
-    pub value: i64,
+    value: i64,
     pub bits: Vec<u8>,
 }
 

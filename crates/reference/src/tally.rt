@@ -6,8 +6,8 @@ use std::fmt::{Display, Write};
 // How many comparisons were tried, and how many of them agree.
 #[derive(Clone, Copy, Default)]
 pub struct Score {
-    pub tried: u64,
-    pub agree: u64,
+    tried: u64,
+    agree: u64,
 }
 
 impl Score {
@@ -109,12 +109,9 @@ impl Tally {
         }
     }
 
-    // Counts comparisons that agree.
-    pub fn agree(&mut self, count: u64) {
-        self.score.add(Score {
-            tried: count,
-            agree: count,
-        });
+    // Counts a comparison that agrees.
+    pub fn agree(&mut self) {
+        self.score.add(Score::of(true));
     }
 
     // Counts comparisons that a case shows.

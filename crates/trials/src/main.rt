@@ -1,5 +1,5 @@
-// Checks the library against a second implementation that shares no code with it: a parser of lines and a translator under FR of its
-// own say which bytes the program is to print, and are held to what `translate_text` prints
+// Checks the library against crate `reference`, a second implementation that shares no code with it: its parser of lines and its
+// translator, under FR, say which bytes the program is to print, and are held to what `translate_text` prints
 // - on sheets made at random, of many sizes and with all kinds of faults;
 // - on small sheets, where also every assignment of the Booleans is enumerated: those that satisfy the printed clauses are to be those
 //   that stand for values such that the accepted clauses hold;
