@@ -1,8 +1,9 @@
 -- Literals that spell a number are all true exactly on the row of its binary digits.
 use Rattle.std.proofs.Common.{◌≡◌, ℕ, zero, suc, ◌+◌, ◌-◌, ◌*◌, ◌/◌, ◌%◌, ◌^◌, ◌<◌, ◌≤◌, Bool, true, false, cond, not, ◌&&◌, eqb, leb, List, [], ◌∷◌, ◌++◌, length, pos, negsuc, sym, refl, ap, ◌∙◌, subst, ap₂, arith, length-append}
+use Rattle.std.proofs.Math.Bool.{and-true}
 use Rattle.std.proofs.lemmas.Bool.{and_parts, and_from, cond_both, le-leb, false≢true}
 use Rattle.std.proofs.lemmas.Bool.Decides.{nat_tests}
-use Rattle.formula.proofs.Tests.{and_true, every_both, every_push}
+use Rattle.formula.proofs.Tests.{every_both, every_push}
 use Rattle.formula.specs.Boolean.{row, local, true_literal}
 use Rattle.formula.specs.Tests.{every}
 use Rattle.encodings.specs.Digits.{digit_literal, spelled}
@@ -44,7 +45,7 @@ digit_row_weighed (suc w) n h =
     ap (λ x. cond (eqb 1 (n % 2)) 1 0 + 2 * x) more ∙ grind (arith, nat_tests)
 
 every_last : {X : Type 0} (test : X → Bool) (xs : List X) (x : X) → every test (xs ++ x ∷ []) ≡ (every test xs && test x)
-every_last test xs x = every_both test xs (x ∷ []) ∙ ap (λ t. every test xs && t) (and_true (test x))
+every_last test xs x = every_both test xs (x ∷ []) ∙ ap (λ t. every test xs && t) (and-true (test x))
 
 -- a literal of a later digit is one of the row's tail
 digit_tail : (b : ℕ) (bits : List ℕ) (p d : ℕ) → true_literal (b ∷ bits) (digit_literal (suc p) d) ≡ true_literal bits (digit_literal p d)

@@ -1,8 +1,8 @@
 -- S keeps the laws: its rows are those with one bit on, and the value is the place of that bit.
 use Rattle.std.proofs.Common.{◌≡◌, ℕ, zero, suc, ◌+◌, ◌-◌, ◌*◌, ◌/◌, ◌≤◌, Bool, true, false, cond, ◌&&◌, eqb, List, [], ◌∷◌, length, get_or, Some, None, sym, refl, ap, ◌∙◌, ap₂, mul-le-mul, arith}
+use Rattle.std.proofs.Math.Bool.{and-true}
 use Rattle.std.proofs.lemmas.Bool.{eq-eqb, eqb-true, and_from}
 use Rattle.std.proofs.lemmas.Bool.Decides.{nat_tests}
-use Rattle.formula.proofs.Tests.{and_true}
 use Rattle.formula.specs.Boolean.{row, satisfies, true_literal, words_of}
 use Rattle.formula.specs.Tests.{every}
 use Rattle.mapping.specs.Counts.{axiom_count, reads_as, code_count}
@@ -22,7 +22,7 @@ use Rattle.encodings.specs.Rows.{row_length}
 -- in a row with one bit on, the Boolean of a value is true at the place of that bit alone
 value_true : (bits : List ℕ) (j : ℕ) → ones bits ≡ 1 → 1 ≤ j → every (true_literal bits) (value_literal j ∷ []) ≡ eqb j (suc (first_on bits))
 value_true bits zero h low = absurd (omega arith)
-value_true bits (suc k) h low = and_true (eqb 1 (get_or bits k 0)) ∙ (on_at_one bits k h ∙ grind (arith, nat_tests))
+value_true bits (suc k) h low = and-true (eqb 1 (get_or bits k 0)) ∙ (on_at_one bits k h ∙ grind (arith, nat_tests))
 
 -- with 64 values there are 6,113 words
 pub words_few : (m : ℕ) → m ≤ 64 → words_of (some_value m ∷ exclusions m) ≤ 8192

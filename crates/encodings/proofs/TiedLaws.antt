@@ -1,9 +1,10 @@
 -- A tied mapping keeps the laws if the inner one does, whether its minus forms are its own or the inner mapping's.
 use Rattle.std.proofs.Common.{◌≡◌, ℕ, zero, suc, ◌+◌, ◌*◌, ◌≤◌, Bool, true, not, ◌&&◌, eqb, List, [], ◌∷◌, ◌++◌, map, length, take, drop, ℤ, pos, is_some, Some, None, Option, sym, refl, ap, ◌∙◌, subst, arith}
+use Rattle.std.proofs.Math.Bool.{and-true}
 use Rattle.std.proofs.lemmas.List.{take-append-drop, length-map}
 use Rattle.std.proofs.lemmas.Bool.{and_parts, and_from, eq-eqb}
 use Rattle.formula.proofs.Sums.{sum_joined}
-use Rattle.formula.proofs.Tests.{and_true, every_append, every_map, every_weaker, every_joined, sum_append}
+use Rattle.formula.proofs.Tests.{every_append, every_map, every_weaker, every_joined, sum_append}
 use Rattle.formula.specs.Boolean.{opposite, true_literal, satisfies, local, row, words, words_of}
 use Rattle.formula.specs.Sheets.{numbers, by_sign}
 use Rattle.formula.specs.Tests.{every, sum_of}
@@ -145,7 +146,7 @@ module _ (M : Meaning) (T : Tieable M) (m : ℕ) (s : is_size m ≡ true) where
     width_least = width_one;
     width_most = T.narrow m s;
     shows = λ bits r holds. let shown = shows_tied bits r holds in
-        (shown.0, shown.1.value, λ j v. and_true (true_literal bits (value_literal j)) ∙ shown.1.by_value j v);
+        (shown.0, shown.1.value, λ j v. and-true (true_literal bits (value_literal j)) ∙ shown.1.by_value j v);
     code = code_tied;
     axioms_local = tied_local;
     list_local = λ i v. ap (λ t. t && true) (value_local w m i v);
@@ -159,7 +160,7 @@ module _ (M : Meaning) (T : Tieable M) (m : ℕ) (s : is_size m ≡ true) where
   half_shows bits r holds = let shown = shows_tied bits r holds in (shown.0, (shown.1.value, at_sign shown.0 shown.1))
     where
       at_sign : (i : ℕ) → Showing bits i → (g : Sign) (j : ℕ) → is_value m j ≡ true → true_form bits (half_form M m g j) ≡ by_sign g (eqb j i)
-      at_sign i h Plus j v = and_true (true_literal bits (value_literal j)) ∙ h.by_value j v
+      at_sign i h Plus j v = and-true (true_literal bits (value_literal j)) ∙ h.by_value j v
       at_sign i h Minus j v =
           some_opposites bits (m + w) (inner_list M m j) (every_shifted_local m w (members (M.form m Plus j)) (L.form_local Plus j v)) ∙ ap not (h.by_inner j v)
 

@@ -1,10 +1,10 @@
 -- The reading of a tied mapping: what the inner bits read as, where that value's own bit is the only one that is on. Each inner code is the end of one code.
 use Rattle.std.proofs.Common.{◌≡◌, ℕ, suc, ◌+◌, ◌<◌, ◌≤◌, Bool, true, false, cond, ◌&&◌, eqb, List, [], ◌∷◌, ◌++◌, length, take, drop, is_some, Some, None, Option, sym, refl, ap, ◌∙◌, ap₂, ⊎_elim, arith}
+use Rattle.std.proofs.Math.Bool.{and-true}
 use Rattle.std.proofs.lemmas.List.{take-append-drop, length-take, take-append-le, drop-append-le, take_all, drop_all}
 use Rattle.std.proofs.lemmas.Bool.{and_from, and_left, and_right, cases_Bool, cond-true, cond-false, both_ways, eqb-true}
 use Rattle.formula.proofs.Assignments.{in_two, assignments_rows}
 use Rattle.formula.proofs.Sums.{sum_same, sum_same_where, sum_swap, count_fixed}
-use Rattle.formula.proofs.Tests.{and_true}
 use Rattle.formula.specs.Boolean.{row, satisfies, assignments, true_literal}
 use Rattle.formula.specs.Tests.{count}
 use Rattle.formula.specs.declared.signed.Sign.TheVariants.{Plus}
@@ -80,7 +80,7 @@ module _ (M : Meaning) (T : Tieable M) (m : ℕ) (s : is_size m ≡ true) where
               let a = own_is ∙ h in
               let shown = shows_two M T m s xs ys r i e a in
               read_shown (tied_axioms M) value_form m bits i (holds ∙ and_from (satisfies ys (M.axioms m)) _ (sym (L.reads ys q) ∙ ap is_some e) a) shown.value
-              (λ j v. and_true (true_literal bits (value_literal j)) ∙ shown.by_value j v) ∙
+              (λ j v. and-true (true_literal bits (value_literal j)) ∙ shown.by_value j v) ∙
               sym (cond-true (row (length xs) xs && alone i xs) (Some i) None (and_from (row (length xs) xs) (alone i xs) both h))
 
           no : alone i xs ≡ false → (tied M).reading m bits ≡ confirmed (Some i) xs
@@ -113,7 +113,7 @@ module _ (M : Meaning) (T : Tieable M) (m : ℕ) (s : is_size m ≡ true) where
       ap (λ t. reads_as i (cond (t && alone j xs) (Some j) None)) r ∙ (by_bit (alone j xs) ∙ by_value (eqb i j) refl)
     where
       by_bit : (h : Bool) → reads_as i (cond h (Some j) None) ≡ (eqb i j && h)
-      by_bit true = sym (and_true (eqb i j))
+      by_bit true = sym (and-true (eqb i j))
       by_bit false = sym (and_right (eqb i j) false refl)
 
       by_value : (e : Bool) → eqb i j ≡ e → (eqb i j && alone j xs) ≡ (eqb i j && alone i xs)

@@ -13,6 +13,7 @@ fn move_word(word: i32, by: u32) -> i32
 }
 
 // Moves each word.
+// kept: translator has one like it; shared, it would be public, and have to say what becomes of words that do not fit, which no caller has.
 pub(crate) fn move_words(words: &mut [i32], by: u32)
     requires { (every (λ w. nat_le (number w) 127) words.old ≡ true) × (by ≤ 64) }
     ensures { words.new ≡ map (shifted_word by) words.old }

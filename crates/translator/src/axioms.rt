@@ -22,6 +22,7 @@ fn move_word(word: i32, start: u32) -> i32
 }
 
 // The same for each of these words.
+// kept: tied_encodings has one like it; shared, it would be public, and have to say what becomes of words that do not fit.
 fn move_words(words: &mut [i32], start: u32)
     requires { every (λ w. nat_lt (number (shifted_word start w)) (2 ^ 31)) words.old ≡ true }
     ensures { words.new ≡ map (shifted_word start) words.old }
