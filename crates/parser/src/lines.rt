@@ -30,8 +30,7 @@ fn find_field(fields: &[u8]) -> Option<&[u8]>
 fn read_name(fields: &[u8]) -> Option<Name>
     ensures { result ≡ given (field_of fields.now) name_of }
 {
-    let field = find_field(fields)?;
-    Name::of_bytes(field)
+    Name::of_bytes(find_field(fields)?)
 }
 
 // The size behind the command d.
