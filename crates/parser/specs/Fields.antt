@@ -5,6 +5,7 @@ use Rattle.formula.specs.Signs.{sign_of}
 use Rattle.formula.specs.declared.signed.Literal.{Literal}
 use Rattle.parser.specs.Cuts.{given, halves}
 
+-- a digit is a byte of 48 to 57
 abbrev pub is_digit : ℕ → Bool
 is_digit b = nat_le 48 b && nat_le b 57
 

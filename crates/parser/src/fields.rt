@@ -7,8 +7,10 @@ ghost use Rattle.parser.specs.Fields.{is_digit, number_of, literal_of};
 
 use formula::{Literal, Sign};
 
+// The most digits of a number.
 const MOST_DIGITS: usize = 5;
 
+// Whether each byte is a digit.
 fn are_digits(field: &[u8]) -> bool
     ensures { result ≡ list_all is_digit field.now }
 {
@@ -25,6 +27,7 @@ pub(crate) fn read_number(field: &[u8]) -> Option<u32>
     str::from_utf8(field).ok()?.parse().ok()
 }
 
+// The place of the first mark.
 fn find_mark(bytes: &[u8], mark: u8) -> Option<usize>
     ensures { result ≡ position (λ b. b == mark) bytes.now }
 {
