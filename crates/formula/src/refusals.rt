@@ -62,6 +62,7 @@ impl From<Layer> for u8 {
     }
 }
 
+// A layer's letter.
 impl fmt::Display for Layer {
     ghost output = { λ l. Some (layer_letter l ∷ []) };
 
@@ -70,6 +71,7 @@ impl fmt::Display for Layer {
     }
 }
 
+// The number that a reason has.
 impl From<Reason> for u32 {
     ghost from_gives = { λ r n. n ≡ reason_number r };
 
@@ -88,12 +90,12 @@ impl From<Reason> for u32 {
     }
 }
 
-// A reason's word.
-impl fmt::Display for Reason {
-    ghost output = { λ r. Some (reason_word r) };
-
-    fn fmt<W: fmt::Write>(&self, f: &mut fmt::Formatter<W>) -> fmt::Result {
-        f.write_str(match self {
+impl Reason {
+    // A reason's word.
+    pub fn word(self) -> &'static str
+        ensures { result.now ≡ reason_word self }
+    {
+        match self {
             Reason::Size => "size",
             Reason::NamesSpent => "names spent",
             Reason::Long => "long",
@@ -103,11 +105,10 @@ impl fmt::Display for Reason {
             Reason::NumbersSpent => "numbers spent",
             Reason::WordsShort => "words short",
             Reason::Line => "line",
-        })
+        }
     }
-}
 
-impl Reason {
+    // The layer that refuses for it.
     pub fn layer(self) -> Layer
         ensures { result ≡ reason_layer self }
     {
@@ -116,6 +117,15 @@ impl Reason {
             Reason::Line => Layer::Line,
             _ => Layer::Workbook,
         }
+    }
+}
+
+// A reason's word.
+impl fmt::Display for Reason {
+    ghost output = { λ r. Some (reason_word r) };
+
+    fn fmt<W: fmt::Write>(&self, f: &mut fmt::Formatter<W>) -> fmt::Result {
+        f.write_str(self.word())
     }
 }
 

@@ -1,7 +1,7 @@
-// Reads a line behind the first.
+// Reads a line behind the first, one byte after the other.
 use crate::forms::Sign;
 use crate::refusals::{Fault, Refused};
-use std::alloc::Global;
+use std::alloc::{AllocError, Global};
 
 // A signed literal as it was read.
 #[derive(Clone, Copy)]
@@ -18,51 +18,136 @@ pub enum Line {
     State(Vec<Signed>),
 }
 
-// A line without the newline that ends it.
-pub fn trimmed(line: &[u8]) -> &[u8] {
-    line.strip_suffix(b"\n").unwrap_or(line)
+// How far a line was read.
+#[derive(Clone, Copy)]
+enum Step {
+    Start,
+    Declare,
+    Size,
+    Clause,
+    Space,
+    Variable,
+    Value,
 }
 
-// A number of one to five digits.
-fn read_number(digits: &[u8]) -> Option<i64> {
-    if digits.is_empty() || digits.len() > 5 {
-        return None;
+// A line of which some bytes were read: the literals that it had so far, and what is known of the next one.
+// kept: a machine over bytes, since the library cuts a line into parts, and a slip of one reading is not to be made in the other.
+#[derive(Drop)]
+struct Reader {
+    step: Step,
+    digits: u32,
+    number: i64,
+    sign: Sign,
+    variable: i64,
+    literals: Vec<Signed>,
+}
+
+impl Reader {
+    fn new(heap: Global) -> Reader {
+        Reader {
+            step: Step::Start,
+            digits: 0,
+            number: 0,
+            sign: Sign::Plus,
+            variable: 0,
+            literals: Vec::new(heap),
+        }
     }
-    digits.iter().try_fold(0i64, |number, byte| {
-        let digit = char::from(*byte).to_digit(10)?;
-        Some(number.saturating_mul(10).saturating_add(i64::from(digit)))
-    })
+
+    // A number begins.
+    fn begin(&mut self, step: Step) -> Step {
+        self.digits = 0;
+        self.number = 0;
+        step
+    }
+
+    // A number of at most five digits goes on.
+    fn digit(&mut self, step: Step, byte: u8) -> Result<Step, Fault> {
+        let digit = byte.wrapping_sub(b'0');
+        if digit > 9 || self.digits > 4 {
+            return Err(Fault::from(Refused::Unreadable));
+        }
+        self.digits = self.digits.saturating_add(1);
+        self.number = self
+            .number
+            .saturating_mul(10)
+            .saturating_add(i64::from(digit));
+        Ok(step)
+    }
+
+    // A literal ends.
+    fn literal(&mut self) -> Result<Step, AllocError> {
+        self.literals.push(Signed {
+            sign: self.sign,
+            variable: self.variable,
+            value: self.number,
+        })?;
+        Ok(Step::Space)
+    }
+
+    // Reads a byte, and says how far the line is read then.
+    fn feed(&mut self, byte: u8) -> Result<Step, Fault> {
+        let ready = self.digits > 0;
+        match (self.step, byte) {
+            (Step::Start, b'd') => Ok(Step::Declare),
+            (Step::Start, b's') => Ok(Step::Clause),
+            (Step::Declare, b' ') => Ok(self.begin(Step::Size)),
+            (Step::Clause, b' ') => Ok(Step::Space),
+            (Step::Space, b'+') => {
+                self.sign = Sign::Plus;
+                Ok(self.begin(Step::Variable))
+            }
+            (Step::Space, b'-') => {
+                self.sign = Sign::Minus;
+                Ok(self.begin(Step::Variable))
+            }
+            (Step::Variable, b':') if ready => {
+                self.variable = self.number;
+                Ok(self.begin(Step::Value))
+            }
+            (Step::Value, b' ') if ready => Ok(self.literal()?),
+            (Step::Size | Step::Variable | Step::Value, _) => self.digit(self.step, byte),
+            _ => Err(Fault::from(Refused::Unreadable)),
+        }
+    }
+
+    // The line ends.
+    fn end(mut self) -> Result<Line, Fault> {
+        match self.step {
+            Step::Size if self.digits > 0 => Ok(Line::Declare(self.number)),
+            Step::Clause => Ok(Line::State(self.literals)),
+            Step::Value if self.digits > 0 => {
+                self.literal()?;
+                Ok(Line::State(self.literals))
+            }
+            _ => Err(Fault::from(Refused::Unreadable)),
+        }
+    }
 }
 
-// A sign, a variable's number, a colon and a value.
-fn read_literal(text: &[u8]) -> Option<Signed> {
-    let (first, rest) = text.split_first()?;
-    let sign = match *first {
-        b'+' => Sign::Plus,
-        b'-' => Sign::Minus,
-        _ => return None,
-    };
-    let mut numbers = rest.splitn(2, |byte| *byte == b':');
-    Some(Signed {
-        sign,
-        variable: read_number(numbers.next()?)?,
-        value: read_number(numbers.next()?)?,
-    })
-}
-
-// Reads a line without its newline.
+// Reads a line, which has no newline.
 pub fn read(heap: Global, line: &[u8]) -> Result<Line, Fault> {
-    if let Some(size) = line.strip_prefix(b"d ") {
-        let size = read_number(size).ok_or(Refused::Unreadable)?;
-        return Ok(Line::Declare(size));
+    let mut reader = Reader::new(heap);
+    for byte in line {
+        reader.step = reader.feed(*byte)?;
     }
-    let mut words = line.split(|byte| *byte == b' ');
-    if words.next() != Some(b"s".as_slice()) {
-        return Err(Fault::from(Refused::Unreadable));
+    reader.end()
+}
+
+// The lines of an input: a newline ends a line, and the last line may do without.
+pub fn split(heap: Global, input: &[u8]) -> Result<Vec<Vec<u8>>, AllocError> {
+    let mut lines = Vec::new(heap);
+    let mut line = Vec::new(heap);
+    for byte in input {
+        if *byte == b'\n' {
+            lines.push(line)?;
+            line = Vec::new(heap);
+        } else {
+            line.push(*byte)?;
+        }
     }
-    let mut literals = Vec::new(heap);
-    for word in words {
-        literals.push(read_literal(word).ok_or(Refused::Unreadable)?)?;
+    if !line.is_empty() {
+        lines.push(line)?;
     }
-    Ok(Line::State(literals))
+    Ok(lines)
 }

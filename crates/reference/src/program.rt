@@ -1,6 +1,6 @@
 // What the program is to print for an input, by the second translator.
 use crate::encodings::Encoding;
-use crate::lines::{read, trimmed};
+use crate::lines::{read, split};
 use crate::sheet::Sheet;
 use std::alloc::{AllocError, Global};
 
@@ -21,7 +21,8 @@ fn read_first(line: &[u8], known: &[Encoding]) -> Option<Encoding> {
 
 // What the program is to print for an input, where it knows some encodings.
 pub fn output(heap: Global, input: &[u8], known: &[Encoding]) -> Result<String, AllocError> {
-    let mut lines = input.split_inclusive(|byte| *byte == b'\n').map(trimmed);
+    let lines = split(heap, input)?;
+    let mut lines = lines.iter().map(Vec::as_slice);
     let encoding = lines.next().and_then(|line| read_first(line, known));
     let Some(encoding) = encoding.filter(|_| input.len() <= LONGEST) else {
         return String::from_str(heap, "c refused 1 15 L 0 0\n");

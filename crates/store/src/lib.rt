@@ -15,6 +15,7 @@ pub enum StoreFault {
     WordsShort(Details),
 }
 
+// The refusal that a fault is printed as.
 impl From<StoreFault> for Refusal {
     ghost from_gives = { λ e r. r ≡ refusal_of e };
 
