@@ -13,6 +13,7 @@ use mapping::{AXIOM_WORDS, Choice, FORM_LITERALS, Mapping, Shape, in_sizes};
 pub struct FullLogarithmic;
 
 // The digit behind those that are skipped, as 1 or as 0.
+// kept: a bit is a number here, as the remainder that it comes from and the definition have it.
 fn digit_literal(skipped: u32, bit: u32) -> i32
     requires { skipped ≤ 6 }
     ensures { result ≡ digit_literal skipped bit }

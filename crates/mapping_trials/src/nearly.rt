@@ -5,7 +5,7 @@ use reference::tally::Tally;
 use std::alloc::AllocError;
 
 // Changes a byte, where there is one at the place.
-// kept: a place stands beside the bits, since other places are tried that lie a step further
+// kept: a place stands beside the bits, since other places are tried that lie a step further.
 fn change(bits: &mut [u8], place: usize, by: u8) {
     if let Some(bit) = bits.get_mut(place) {
         *bit ^= by;

@@ -33,7 +33,7 @@ pub fn fillers<const N: usize>() -> [i32; N] {
 }
 
 // The memory that a mapping leaves when it is asked for axioms, and the number of words that it answers.
-// kept: a mapping writes into memory that is handed in, of a fixed size, and all of that memory is compared
+// kept: a mapping writes into memory that is handed in, of a fixed size, and all of that memory is compared.
 #[derive(Drop)]
 pub struct Axioms {
     pub memory: [i32; AXIOM_WORDS],
@@ -48,7 +48,7 @@ impl Axioms {
 }
 
 // A form as a mapping gives it: its kind, the number of its literals, and the places that they are written to.
-// kept: a mapping writes into places that are handed in, of a fixed number, and all of them are compared
+// kept: a mapping writes into places that are handed in, of a fixed number, and all of them are compared.
 #[derive(Clone, Copy, Debug, PartialEq, Eq)]
 pub struct Formed {
     pub kind: Kind,
@@ -176,7 +176,7 @@ impl<M: Mapping + Copy> Subjects<M> {
     }
 
     // Asks a question at every size, and reports the answers as a group.
-    pub fn ask<F: Fn(&Subject<M>, &mut Tally) -> Result<(), AllocError>>(
+    pub(crate) fn ask<F: Fn(&Subject<M>, &mut Tally) -> Result<(), AllocError>>(
         &self,
         tally: &mut Tally,
         group: &str,

@@ -14,7 +14,7 @@ use rows::Answer;
 use std::alloc::AllocError;
 use std::slice::Iter;
 
-// What becomes of a line: it takes the answer to its call, where it makes one.
+// What becomes of a line, which takes the next of the answers where it makes a call.
 fn find_outcome(line: &Option<Line>, answers: &mut Iter<'_, Answer>) -> Result<u32, LineFault>
     ensures outcome { result ≡ outcome (option_map said_of line.now) (iter_rest answers.old) }
     ensures rest { iter_rest answers.new ≡ drop (length (steps_in (option_map said_of line.now))) (iter_rest answers.old) }

@@ -32,11 +32,11 @@ impl Coding {
     }
 
     pub fn in_range(self) -> bool {
-        self.size > 1 && self.size < 65
+        (2..=64).contains(&self.size)
     }
 
     pub(crate) fn has(self, value: i64) -> bool {
-        self.in_range() && value > 0 && value <= self.size
+        self.in_range() && (1..=self.size).contains(&value)
     }
 
     // The digits that it takes to count the values from 0.

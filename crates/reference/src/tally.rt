@@ -88,13 +88,13 @@ impl Display for Case<'_> {
     }
 }
 
-// The comparisons of a group; the first difference of the group; whether one of all groups fails; and what is reported of all groups.
+// The comparisons of a group; the first difference of the group; the comparisons of all groups before; and what is reported of them.
 #[derive(Drop)]
 pub struct Tally {
     pub heap: Global,
     score: Score,
     difference: String,
-    fails: bool,
+    before: Score,
     pub report: String,
 }
 
@@ -104,7 +104,7 @@ impl Tally {
             heap,
             score: Score::default(),
             difference: String::new(heap),
-            fails: false,
+            before: Score::default(),
             report: String::new(heap),
         }
     }
@@ -133,7 +133,7 @@ impl Tally {
         let Score { tried, agree } = self.score;
         writeln!(self.report, "{name}: {tried} tried, {agree} agree")?;
         self.report.push_str(self.difference.as_str())?;
-        self.fails = self.fails || !self.score.is_full();
+        self.before.add(self.score);
         self.difference.clear();
         self.score = Score::default();
         Ok(())
@@ -141,7 +141,11 @@ impl Tally {
 
     // Reports whether all agree.
     pub fn finish(&mut self) -> Result<(), AllocError> {
-        let all = if self.fails { "DISAGREE" } else { "all agree" };
+        let all = if self.before.is_full() {
+            "all agree"
+        } else {
+            "DISAGREE"
+        };
         writeln!(self.report, "{all}")
     }
 }

@@ -103,7 +103,7 @@ impl TextStore {
     }
 }
 
-// Writes a clause behind those that it holds, as a line of its own.
+// Each clause is a line of its own: a put writes one behind those held, a cut lets the last of them go.
 impl Store for TextStore {
     ghost Cell = { ℕ };
 

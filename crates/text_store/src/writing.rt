@@ -22,7 +22,7 @@ pub(crate) fn write_clause(out: &mut [u8], clause: &[i32]) -> usize
     requires { length (text_clause clause.now) ≤ length out.old }
     ensures { WroteFront (text_clause clause.now) out.old result out.new }
 {
-    // kept: a fold's closure would write the buffer that it captures, and then no proof knows what stands there.
+    // kept: tried as a fold; its closure writes the buffer that it captures, and what stands there then stayed open.
     let mut end = 0;
     for literal in clause {
         end += write_literal(&mut out[end..], *literal);

@@ -20,7 +20,7 @@ pub type Regular = Tied<FullRegular>;
 // HR: as R, with a minus by FR's bounds.
 pub type HalfRegular = HalfTied<FullRegular>;
 
-// A mapping whose meaning has a name.
+// A mapping whose meaning has a name: the check refuses a name that is another's.
 trait Named: Mapping {
     ghost named: { Meaning };
 

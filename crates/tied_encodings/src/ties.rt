@@ -38,6 +38,7 @@ impl Tie<'_> {
     {
         let end = self.others.len() + 1;
         memory[0] = self.literal;
+        // kept: the index, since nothing is known of memory that is written through `iter_mut().zip(..)`.
         for (place, other) in self.others.iter().enumerate() {
             memory[place + 1] = -*other;
         }

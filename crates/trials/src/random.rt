@@ -1,5 +1,5 @@
 // Numbers that look random, the same in each run from one seed.
-// kept: another generator than this one would make other inputs
+// kept: another generator than this one would make other inputs.
 #[derive(Drop)]
 pub struct Random {
     state: u64,
