@@ -1,7 +1,8 @@
 // The text store: what it keeps true, and its calls.
-ghost use Rattle.std.specs.Prelude.{◌≡◌, ℕ, ◌-◌, ◌<◌, length, take, vec_len};
+ghost use Rattle.std.specs.Prelude.{◌≡◌, ℕ, ◌-◌, ◌<◌, true, length, take, vec_len};
+ghost use Rattle.formula.specs.Tests.{every};
 ghost use Rattle.store.specs.Stores.{put_answer, after_put, after_cut};
-ghost use Rattle.text_store.specs.ByteStores.{byte_bounded, byte_empty, StandsFor};
+ghost use Rattle.text_store.specs.ByteStores.{fit_clause, byte_bounded, byte_empty, StandsFor};
 ghost use Rattle.text_store.specs.Texts.{text_clause, text_most};
 ghost use Rattle.text_store.specs.TextStores.{text_terms, terms_of};
 
@@ -63,6 +64,7 @@ impl TextStore {
     pub fn held(&self) -> &[u8]
         ensures stands { StandsFor text_clause result.now self.now.list }
         ensures front { take (length result.now) self.now.memory ≡ result.now }
+        ensures fit { every fit_clause self.now.list ≡ true }
         ensures raw { self.now.raw ≡ self.now.list }
     {
         &self.bytes.as_slice()[..self.held]
