@@ -4,7 +4,7 @@
 ghost use Rattle.std.specs.Prelude.{◌≡◌, ℕ, List, length};
 ghost use Rattle.formula.specs.Boolean.{words_of};
 ghost use Rattle.store.specs.Faults.{refusal_of};
-ghost use Rattle.store.specs.Stores.{Terms, Bounded, Contents, put_answer, after_put, after_cut, after_clear};
+ghost use Rattle.store.specs.Stores.{Terms, Bounded, Contents, words_answer, put_answer, after_put, after_cut, after_clear};
 
 use formula::{Details, Reason, Refusal};
 
@@ -74,6 +74,20 @@ pub trait Store {
     // The largest number that a literal may have.
     fn largest(&self) -> u64
         ensures { result ≡ (terms self.now).largest };
+
+    // Refuses words that pass those left.
+    fn check_words(&self, words: u64) -> Result<(), StoreFault>
+        ensures { result ≡ words_answer (terms self.now) (contents self.now) words }
+    {
+        let left = self.capacity().saturating_sub(self.held_words());
+        if words > left {
+            return Err(StoreFault::WordsShort(Details {
+                first: words,
+                second: left,
+            }));
+        }
+        Ok(())
+    }
 
     // a capacity of at most 2^40 words, a largest number of at most 2^31 - 1
     ghost laws: { (s : Self) → Bounded (terms s) };

@@ -1,14 +1,14 @@
 // The text store: what it keeps true, and its calls.
-ghost use Rattle.std.specs.Prelude.{◌≡◌, ℕ, ◌-◌, ◌<◌, length, take, vec_len};
-ghost use Rattle.store.specs.Stores.{words_answer, put_answer, after_put, after_cut};
-ghost use Rattle.text_store.specs.ByteStores.{byte_bounded, byte_empty, StandsFor};
+ghost use Rattle.std.specs.Prelude.{◌≡◌, ℕ, ◌-◌, ◌<◌, true, length, take, vec_len};
+ghost use Rattle.formula.specs.Tests.{every};
+ghost use Rattle.store.specs.Stores.{put_answer, after_put, after_cut};
+ghost use Rattle.text_store.specs.ByteStores.{fit_clause, byte_bounded, byte_empty, StandsFor};
 ghost use Rattle.text_store.specs.Texts.{text_clause, text_most};
 ghost use Rattle.text_store.specs.TextStores.{text_terms, terms_of};
 
 use crate::fitting::{LARGEST, check_numbers};
 use crate::scanning::last_piece;
 use crate::writing::write_clause;
-use formula::Details;
 use std::marker::Model;
 use store::{Store, StoreFault};
 
@@ -64,6 +64,7 @@ impl TextStore {
     pub fn held(&self) -> &[u8]
         ensures stands { StandsFor text_clause result.now self.now.list }
         ensures front { take (length result.now) self.now.memory ≡ result.now }
+        ensures fit { every fit_clause self.now.list ≡ true }
         ensures raw { self.now.raw ≡ self.now.list }
     {
         &self.bytes.as_slice()[..self.held]
@@ -75,20 +76,6 @@ impl TextStore {
         ensures long { vec_len result ≡ length self.memory }
     {
         self.bytes
-    }
-
-    // Refuses words that pass those left.
-    fn check_room(&self, words: u64) -> Result<(), StoreFault>
-        ensures { result ≡ words_answer (terms_of self.now) self.now words }
-    {
-        let left = self.capacity().saturating_sub(self.words);
-        if words > left {
-            return Err(StoreFault::WordsShort(Details {
-                first: words,
-                second: left,
-            }));
-        }
-        Ok(())
     }
 
     // Keeps all clauses but the last.
@@ -122,7 +109,7 @@ impl Store for TextStore {
     {
         check_numbers(clause)?;
         let words = clause.len() as u64 + 1;
-        self.check_room(words)?;
+        self.check_words(words)?;
         self.held += write_clause(&mut self.bytes.as_mut_slice()[self.held..], clause);
         self.words += words;
         self.count += 1;

@@ -55,10 +55,10 @@ takes_few [] = omega arith
 takes_few (p ∷ ps) = omega (arith, (held_few p).1, takes_few ps)
 
 -- a product of numbers fits where that of each front does
-pub product_fits : {S : Type 0} {steps : S → Option ℕ → S → Type 0} (s : S) (all : List ℕ) (top : ℕ) → YieldsList steps (λ n. n) s all →
+pub product_within : {S : Type 0} {steps : S → Option ℕ → S → Type 0} (s : S) (all : List ℕ) (top : ℕ) → YieldsList steps (λ n. n) s all →
     ((n : ℕ) → multiplied (take n all) < top) → EachRunFrom steps s (λ p. multiplied p.items < top)
 unfolding YieldsRun
-product_fits {steps = steps} s all top road fits = λ p seen at.
+product_within {steps = steps} s all top road fits = λ p seen at.
     let here : Yields steps s p.items p.gave.0.0 = subst (λ u. Yields steps u p.items p.gave.0.0) at p.gave.0.1 in
     subst (λ ns. multiplied ns < top) (sym (sym (map-id p.items) ∙ YieldsList-so_far road p.items p.gave.0.0 here)) (fits (length p.items))
 

@@ -3,14 +3,12 @@ ghost use Rattle.std.specs.Prelude.{◌≡◌, ◌≤◌, [], ◌∷◌, length,
 ghost use Rattle.translator.specs.Places.{place_at, form_at, reach};
 ghost use Rattle.translator.specs.Placed.{form_in};
 
+use crate::clauses::CLAUSE_LITERALS;
 use crate::placed::PlacedForm;
 use crate::places::Place;
 use arrayvec::ArrayVec;
 use formula::Literal;
 use mapping::{FORM_LITERALS, Mapping};
-
-// A clause has at most 16 literals, each with its form.
-pub(crate) const CLAUSE_FORMS: usize = 16;
 
 // A mapping, and where the Booleans of the declared variables lie.
 #[derive(Drop)]
@@ -46,8 +44,8 @@ impl<M: Mapping> Layout<'_, M> {
         }
     }
 
-    // The forms of the literals of a clause, in order.
-    pub(crate) fn forms(&self, literals: &[Literal]) -> ArrayVec<PlacedForm, CLAUSE_FORMS>
+    // The forms of the literals of a clause, in order: one for each.
+    pub(crate) fn forms(&self, literals: &[Literal]) -> ArrayVec<PlacedForm, CLAUSE_LITERALS>
         requires { length literals.now ≤ 16 }
         ensures { map form_in result.items ≡ map (form_at M.Mapping.meaning self.now.places.now) literals.now }
     {

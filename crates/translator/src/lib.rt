@@ -10,6 +10,6 @@ mod product;
 pub mod room;
 
 pub use axioms::file_axioms;
-pub use clauses::file_clause;
+pub use clauses::{CLAUSE_LITERALS, file_clause};
 pub use places::Place;
 pub use room::check_room;

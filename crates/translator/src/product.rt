@@ -5,14 +5,14 @@ ghost use Rattle.mapping.specs.Forms.{distributed};
 ghost use Rattle.translator.specs.Filing.{with_all};
 ghost use Rattle.translator.specs.Placed.{form_in, Ready, product_behind};
 
-use crate::layout::CLAUSE_FORMS;
+use crate::clauses::CLAUSE_LITERALS;
 use crate::placed::{PlacedForm, shift};
 use arrayvec::ArrayVec;
 use mapping::{FORM_LITERALS, Kind};
 use store::{Store, StoreFault};
 
 // A clause of a product has at most so many literals: those of each form.
-const CLAUSE_LITERALS: usize = CLAUSE_FORMS * FORM_LITERALS;
+const FRONT_LITERALS: usize = CLAUSE_LITERALS * FORM_LITERALS;
 
 // The words of a product of at most 16 forms: as many clauses as the splits multiply to, each with its literals and one for its end.
 pub(crate) fn count_words(forms: &[PlacedForm]) -> u64
@@ -29,7 +29,7 @@ pub(crate) fn count_words(forms: &[PlacedForm]) -> u64
 pub(crate) fn put_product<S: Store>(
     store: &mut S,
     forms: &[PlacedForm],
-    front: &mut ArrayVec<i32, CLAUSE_LITERALS>,
+    front: &mut ArrayVec<i32, FRONT_LITERALS>,
 ) -> Result<(), StoreFault>
     requires { Ready (S.Store.terms store.old) (S.Store.contents store.old) front.old.items forms.now }
     ensures answer { result ≡ Ok tt }

@@ -16,12 +16,5 @@ pub fn check_room<S: Store>(store: &S, highest: u64, words: u64) -> Result<(), S
             second: largest,
         }));
     }
-    let left = store.capacity().saturating_sub(store.held_words());
-    if words > left {
-        return Err(StoreFault::WordsShort(Details {
-            first: words,
-            second: left,
-        }));
-    }
-    Ok(())
+    store.check_words(words)
 }

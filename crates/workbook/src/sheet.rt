@@ -9,16 +9,14 @@ use crate::faults::WorkbookFault;
 use formula::{Details, Literal};
 use mapping::{AXIOM_WORDS, in_sizes};
 use std::alloc::{AllocError, Global};
-use translator::Place;
+use translator::{CLAUSE_LITERALS, Place};
 
-// The limits of a sheet, and of a clause.
+// The limits of a sheet.
 const MOST_VARIABLES: usize = 255;
 
 const MOST_ENTRIES: usize = 1024;
 
 const MOST_LITERALS: usize = 4096;
-
-const CLAUSE_LITERALS: usize = 16;
 
 // An entry: a variable of a size, or a clause of so many literals.
 #[derive(Clone, Copy)]

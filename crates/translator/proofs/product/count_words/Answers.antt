@@ -1,12 +1,12 @@
 use Rattle.std.proofs.Common.{rules, ◌≡◌, ◌≤◌, ◌+◌, map, arith, tests, mul-le-mul, refl, sum_by}
 use Rattle.std.proofs.lemmas.Iterator.{YieldsList-from_slice, YieldsList-from_map}
 use Rattle.std.proofs.lemmas.Iterator.Consumers.{sum_by_from_yields_List, fits_by_from_yields_list}
-use Rattle.translator.proofs.Counting.{split_of, taken_of, multiplied, product_is, product_fits, front_fits, product_few, sum_few, counted}
+use Rattle.translator.proofs.Counting.{split_of, taken_of, multiplied, product_is, product_within, front_fits, product_few, sum_few, counted}
 use Rattle.translator.proofs.product.count_words.Goals as goal
 
 pub product-clauses-requires-clause-fits : goal.product-clauses-requires-clause-fits
 product-clauses-requires-clause-fits c =
-    product_fits c.map.result (map split_of c.args.forms.now) _
+    product_within c.map.result (map split_of c.args.forms.now) _
     (YieldsList-from_map _ split_of (YieldsList-from_slice c.args.forms.now cc) c.map.ensures.closure (λ x r q k. search (rules, tests)))
     (front_fits c.args.forms.now c.requires)
 
