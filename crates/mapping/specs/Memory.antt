@@ -1,5 +1,6 @@
 -- How clauses and literals lie in memory that is handed in. Assumes nothing.
 use Rattle.std.specs.Prelude.{ℕ, zero, suc, ◌+◌, List, [], ◌∷◌, ◌++◌, length, take, drop, ℤ, pos, negsuc}
+use Rattle.std.specs.Int.{w32, saturate_signed}
 use Rattle.std.specs.List.{flat_map}
 use Rattle.formula.specs.Boolean.{Clause}
 
@@ -16,6 +17,10 @@ abbrev pub shifted_word : ℕ → ℤ → ℤ
 shifted_word n (pos zero) = pos zero
 shifted_word n (pos (suc a)) = pos (suc a + n)
 shifted_word n (negsuc a) = negsuc (a + n)
+
+-- the same in 32 bits: a word that would be outside them is the nearest inside
+abbrev pub moved_word : ℕ → ℤ → ℤ
+moved_word n w = saturate_signed w32 (shifted_word n w)
 
 -- memory after xs is written at its front: the rest stays
 abbrev pub over : {X : Type 0} → List X → List X → List X

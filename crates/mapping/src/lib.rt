@@ -8,9 +8,11 @@ ghost use Rattle.mapping.specs.Memory.{flat, over};
 ghost use Rattle.formula.specs.Boolean.{words_of};
 
 pub mod limits;
+mod moves;
 
 use formula::Sign;
 pub use limits::{Choice, Size, in_sizes, in_values};
+pub use moves::move_words;
 
 // Whether a form asks for all of its literals or for one of them.
 #[derive(Clone, Copy, Debug, PartialEq, Eq)]

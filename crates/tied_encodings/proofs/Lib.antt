@@ -1,5 +1,4 @@
 pub mod Fronts
 pub mod OneBit
-pub mod Small
 pub mod TieWords
 pub mod ValueTies

@@ -4,12 +4,11 @@ ghost use Rattle.encodings.proofs.LogarithmicLaws.{full_logarithmic_tieable};
 ghost use Rattle.encodings.proofs.RegularLaws.{full_regular_tieable};
 ghost use Rattle.tied_encodings.specs.Narrow.{inner_narrow};
 
-use super::moves::move_words;
 use arrayvec::ArrayVec;
 use encodings::{FullRegular, Listed};
 use formula::Sign;
 use full_encodings::FullLogarithmic;
-use mapping::{Choice, FORM_LITERALS, Mapping};
+use mapping::{Choice, FORM_LITERALS, Mapping, move_words};
 
 // A mapping whose plus forms ask for all of their literals, and beside which there is room for the values and their ties.
 pub trait Inner: Mapping + Copy {

@@ -3,7 +3,6 @@
 
 mod half_tied;
 mod inner;
-mod moves;
 mod names;
 mod tied;
 mod ties;

@@ -10,11 +10,10 @@ ghost use Rattle.encodings.proofs.TiedLaws.{tied_lawful};
 ghost use Rattle.tied_encodings.specs.Marks.{only};
 
 use super::inner::{Inner, InnerLists};
-use super::moves::move_words;
 use super::ties::Tie;
 use encodings::Listed;
 use formula::Sign;
-use mapping::{AXIOM_WORDS, Choice, FORM_LITERALS, Mapping, Shape, Size, in_sizes};
+use mapping::{AXIOM_WORDS, Choice, FORM_LITERALS, Mapping, Shape, Size, in_sizes, move_words};
 use standard_encoding::Standard;
 
 // A Boolean for each value beside an inner mapping, tied to its forms.

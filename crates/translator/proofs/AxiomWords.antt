@@ -1,13 +1,13 @@
 -- The axioms of a variable as words in memory. Assumes nothing.
-use Rattle.std.proofs.Common.{◌≡◌, ℕ, ◌+◌, ◌^◌, ◌<◌, ◌≤◌, Bool, true, ltb, leb, List, [], ◌∷◌, ◌++◌, map, length, take, drop, ℤ, pos, Ok, Result, sym, refl, ap, ◌∙◌, subst, append_assoc, append-nil, arith}
+use Rattle.std.proofs.Common.{◌≡◌, ℕ, ◌+◌, ◌≤◌, true, List, [], ◌∷◌, ◌++◌, map, length, take, drop, ℤ, Ok, Result, sym, refl, ap, ◌∙◌, subst, append_assoc, append-nil, arith}
 use Rattle.std.proofs.lemmas.List.{take_at, drop_at}
-use Rattle.std.proofs.lemmas.Bool.{and_parts, leb-true, lt-ltb}
-use Rattle.formula.specs.Boolean.{Clause, number, local, words_of}
+use Rattle.std.proofs.lemmas.Bool.{and_parts}
+use Rattle.formula.specs.Boolean.{Clause, local, words_of}
 use Rattle.formula.specs.Tests.{every}
 use Rattle.mapping.specs.Forms.{shifted}
 use Rattle.mapping.specs.Meanings.{Meaning, Lawful}
-use Rattle.mapping.specs.Memory.{ended, flat, over, shifted_word}
-use Rattle.mapping.proofs.Moving.{shifted_literal, length_flat, no_zero, moved_flat, words_moved}
+use Rattle.mapping.specs.Memory.{ended, flat, over, moved_word}
+use Rattle.mapping.proofs.Moving.{length_flat, no_zero, moved_flat, words_moved}
 use Rattle.mapping.proofs.Ranges.{axioms_own}
 use Rattle.store.specs.Stores.{Terms, Bounded, Contents, fits, words_left}
 use Rattle.store.specs.declared.StoreFault.{StoreFault}
@@ -15,24 +15,10 @@ use Rattle.translator.specs.Filing.{room_answer, axioms_answer, with_all, after_
 use Rattle.translator.specs.Places.{placed_axioms}
 use Rattle.translator.specs.Placed.{Takes}
 use Rattle.translator.specs.Words.{ended_in, axioms_left}
-use Rattle.translator.proofs.Fitting.{clause_fits, shifted_number}
-use Rattle.formula.proofs.Tests.{every_append, every_joined, every_weaker, every_map}
+use Rattle.translator.proofs.Fitting.{clause_fits}
+use Rattle.formula.proofs.Tests.{every_weaker, every_map}
 use Rattle.translator.proofs.Rooms.{room_ok}
 use Rattle.translator.proofs.Worded.{ended_in_more}
-
-module _ (w start : ℕ) where
-  small_words : start + w < 2 ^ 31 → (cs : List Clause) → every (every (local w)) cs ≡ true → every (λ x. ltb (number (shifted_word start x)) (2 ^ 31)) (flat cs) ≡ true
-  small_words within cs own =
-      every_joined small ended cs
-      ∙ every_weaker (every (local w)) (λ c. every small (ended c)) (λ c h. every_append small c (pos 0 ∷ []) (every_weaker (local w) small one c h) refl) cs own
-    where
-      small : ℤ → Bool
-      small x = ltb (number (shifted_word start x)) (2 ^ 31)
-
-      one : (l : ℤ) → local w l ≡ true → small l ≡ true
-      one l own =
-          let high = leb-true (number l) w (and_parts (leb 1 (number l)) (leb (number l) w) own).1 in
-          lt-ltb _ _ (omega (arith, shifted_number start l, ap number (shifted_literal start l (no_zero w l own))))
 
 -- words that end clauses without zeros give the clauses back
 ended_clause : (L : ℕ) (c₀ c : Clause) (ws : List ℤ) → every (fits L) c ≡ true → ended_in c₀ (ended c ++ ws) ≡ (c₀ ++ c) ∷ ended_in [] ws
@@ -74,14 +60,9 @@ module _ {Cell : Type 0} (T : Terms Cell) (K : Contents Cell) (M : Meaning) (law
     part_is : take count written ≡ flat (M.axioms m)
     part_is = ap (take count) wrote ∙ take_at (flat (M.axioms m)) _ count long
 
-    pub words_small : every (λ x. ltb (number (shifted_word start x)) (2 ^ 31)) (take count written) ≡ true
-    words_small =
-        subst (λ (xs : List ℤ). every (λ x. ltb (number (shifted_word start x)) (2 ^ 31)) xs ≡ true) (sym part_is)
-        (small_words (M.width m) start (omega (arith, bounded.largest, within)) (M.axioms m) own)
-
-    module _ (moved : List ℤ) (is : moved ≡ map (shifted_word start) (take count written)) where
+    module _ (moved : List ℤ) (is : moved ≡ map (moved_word start) (take count written)) where
       front : moved ≡ flat (placed_axioms M start m)
-      front = is ∙ ap (map (shifted_word start)) part_is ∙ moved_flat (M.width m) start (M.axioms m) own
+      front = is ∙ ap (map (moved_word start)) part_is ∙ moved_flat (M.width m) start (omega (arith, bounded.largest, within)) (M.axioms m) own
 
       ended_are : ended_in [] moved ≡ placed_axioms M start m
       ended_are = ap (ended_in []) front ∙ ended_flat T.largest (placed_axioms M start m) (placed_fit within)

@@ -1,36 +1,15 @@
 // The axioms of a variable, stored.
-ghost use Rattle.std.specs.Prelude.{◌≡◌, ◌^◌, ◌<◌, true, [], map, Ok, nat_lt, ◌==◌, position};
+ghost use Rattle.std.specs.Prelude.{◌≡◌, [], Ok, ◌==◌, position};
 ghost use Rattle.formula.specs.Boolean.{number};
-ghost use Rattle.formula.specs.Tests.{every};
-ghost use Rattle.mapping.specs.Memory.{flat, over, shifted_word};
+ghost use Rattle.mapping.specs.Memory.{flat, over};
 ghost use Rattle.translator.specs.Filing.{axioms_answer, with_all, after_all};
 ghost use Rattle.translator.specs.Places.{placed_axioms};
 ghost use Rattle.translator.specs.Placed.{Takes};
 ghost use Rattle.translator.specs.Words.{ended_in, axioms_left};
 
-use crate::placed::shift;
 use crate::room::check_room;
-use mapping::{AXIOM_WORDS, Mapping};
+use mapping::{AXIOM_WORDS, Mapping, move_words};
 use store::{Store, StoreFault};
-
-// A word, moved behind the Booleans before a variable's own; an end stays an end.
-fn move_word(word: i32, start: u32) -> i32
-    requires { number (shifted_word start word) < 2 ^ 31 }
-    ensures { result ≡ shifted_word start word }
-{
-    if word == 0 { 0 } else { shift(word, start) }
-}
-
-// The same for each of these words.
-// kept: tied_encodings has one like it; shared, it would be public, and have to say what becomes of words that do not fit.
-fn move_words(words: &mut [i32], start: u32)
-    requires { every (λ w. nat_lt (number (shifted_word start w)) (2 ^ 31)) words.old ≡ true }
-    ensures { words.new ≡ map (shifted_word start) words.old }
-{
-    for word in words.iter_mut() {
-        *word = move_word(*word, start);
-    }
-}
 
 // The number of words before the first end.
 fn find_end(words: &[i32]) -> Option<usize>

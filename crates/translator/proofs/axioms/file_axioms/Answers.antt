@@ -1,11 +1,6 @@
 use Rattle.std.proofs.Common.{◌+◌, ◌∙◌}
-use Rattle.translator.proofs.AxiomWords.{words_small, words_takes, stored}
+use Rattle.translator.proofs.AxiomWords.{words_takes, stored}
 use Rattle.translator.proofs.axioms.file_axioms.Goals as goal
-
-pub move_words-requires : goal.move_words-requires
-move_words-requires g c =
-    words_small (g.S.Store.terms c.args.store.now) (g.S.Store.contents c.args.store.now) g.M.Mapping.meaning g.met.M.Mapping.lawful (g.met.S.Store.laws c.args.store.now) c.args.start c.args.size
-    _ _ _ _ _ _ c.axioms-count.ensures.memory c.axioms-count.ensures.count (λ j. c.from.ensures j + (c.from-2.ensures ∙ c.width.ensures) j) c.check_room.ensures c.in_ok-check_room.was
 
 pub put_clauses-requires : goal.put_clauses-requires
 put_clauses-requires g c =
