@@ -7,9 +7,11 @@ ghost use Rattle.mapping.specs.Meanings.{Meaning, Lawful};
 ghost use Rattle.mapping.specs.Memory.{flat, over};
 ghost use Rattle.formula.specs.Boolean.{words_of};
 
+mod forms;
 pub mod limits;
 mod moves;
 
+pub use forms::HeldForm;
 use formula::Sign;
 pub use limits::{Choice, Size, in_sizes, in_values};
 pub use moves::move_words;

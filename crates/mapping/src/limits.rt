@@ -6,14 +6,14 @@ ghost use Rattle.mapping.specs.Meanings.{is_size, is_value};
 pub fn in_sizes(size: u32) -> bool
     ensures { result ≡ is_size size }
 {
-    size >= 2 && size <= 64
+    (2..=64).contains(&size)
 }
 
 // The values of such a size are 1 to that size.
 pub fn in_values(size: u32, value: u32) -> bool
     ensures { result ≡ (is_size size && is_value size value) }
 {
-    in_sizes(size) && value >= 1 && value <= size
+    in_sizes(size) && (1..=size).contains(&value)
 }
 
 // A size in range.

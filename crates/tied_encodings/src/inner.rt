@@ -8,7 +8,7 @@ use arrayvec::ArrayVec;
 use encodings::{FullRegular, Listed};
 use formula::Sign;
 use full_encodings::FullLogarithmic;
-use mapping::{Choice, FORM_LITERALS, Mapping, move_words};
+use mapping::{Choice, FORM_LITERALS, HeldForm, Mapping, move_words};
 
 // A mapping whose plus forms ask for all of their literals, and beside which there is room for the values and their ties.
 pub trait Inner: Mapping + Copy {
@@ -34,11 +34,8 @@ impl<M: Inner> Listed for InnerLists<M> {
 
     fn literals(&self, choice: Choice) -> ArrayVec<i32, FORM_LITERALS> {
         let Choice { size, value } = choice;
-        let mut places = [0; FORM_LITERALS];
-        let shape = self.0.form(size, Sign::Plus, value, &mut places);
-        move_words(&mut places[..shape.count], size);
-        let mut literals = ArrayVec::from(places);
-        literals.truncate(shape.count);
+        let mut literals = HeldForm::ask(&self.0, size, Sign::Plus, value).literals;
+        move_words(literals.as_mut_slice(), size);
         literals
     }
 }

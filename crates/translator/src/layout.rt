@@ -8,7 +8,7 @@ use crate::placed::PlacedForm;
 use crate::places::Place;
 use arrayvec::ArrayVec;
 use formula::Literal;
-use mapping::{FORM_LITERALS, Mapping};
+use mapping::{HeldForm, Mapping};
 
 // A mapping, and where the Booleans of the declared variables lie.
 #[derive(Drop)]
@@ -31,15 +31,10 @@ impl<M: Mapping> Layout<'_, M> {
         ensures { form_in result ≡ form_at M.Mapping.meaning self.now.places.now literal.now }
     {
         let place = self.place(literal.variable);
-        let mut literals = [0; FORM_LITERALS];
-        let shape = self
-            .mapping
-            .form(place.size, literal.sign, literal.value, &mut literals);
-        let mut literals = ArrayVec::from(literals);
-        literals.truncate(shape.count);
+        let form = HeldForm::ask(self.mapping, place.size, literal.sign, literal.value);
         PlacedForm {
-            kind: shape.kind,
-            literals,
+            kind: form.kind,
+            literals: form.literals,
             start: place.start,
         }
     }
