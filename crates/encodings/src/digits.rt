@@ -1,4 +1,5 @@
 // The binary digits of a size.
+// kept: `as` from or to usize and i32, which have no From; each is proved to lose nothing.
 ghost use Rattle.std.specs.Prelude.{◌≡◌};
 ghost use Rattle.encodings.specs.Digits.{digits, spare};
 

@@ -1,4 +1,5 @@
 // The mapping FR: a Boolean for each value but the first says "this value or more".
+// kept: `as` from or to usize and i32, which have no From; each is proved to lose nothing.
 ghost use Rattle.std.specs.Prelude.{◌≡◌, ◌<◌, ◌≤◌};
 ghost use Rattle.encodings.specs.FullRegular.{at_least, less_than, bounds, full_regular};
 ghost use Rattle.encodings.specs.Levels.{full_regular_lawful, bounds_narrow};

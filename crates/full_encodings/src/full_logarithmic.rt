@@ -1,4 +1,5 @@
 // The mapping FL: the Booleans are binary digits that spell a value.
+// kept: `as` from or to usize and i32, which have no From; each is proved to lose nothing.
 ghost use Rattle.std.specs.Prelude.{◌≡◌, ◌≤◌};
 ghost use Rattle.encodings.specs.Digits.{digit_literal, spelled};
 ghost use Rattle.encodings.specs.FullLogarithmic.{pattern, full_logarithmic};

@@ -77,6 +77,7 @@ fn translate_lines<M: Mapping + Drop>(
 }
 
 // Translates lines under the mapping of a name.
+// kept: a match on the names that there are, since each brings a mapping of a type of its own.
 fn translate_named(heap: Global, name: Name, lines: &[Option<Line>]) -> Result<Vec<u8>, AllocError>
     ensures { IfOk result (λ v. v.items ≡ translated (meaning_of name) (map (option_map said_of) lines.now)) }
 {

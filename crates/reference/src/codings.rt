@@ -158,6 +158,7 @@ impl Coding {
     }
 
     // Whether the form of a value with a sign is made of the value's own Boolean.
+    // kept: a match on the encoding, here and for the axioms: a table by name, and no step that a closure could stand for.
     fn has_own(self, sign: Sign) -> bool {
         match self.encoding {
             Encoding::S | Encoding::L | Encoding::R => true,

@@ -1,4 +1,5 @@
 // signsat: reads a text of at most 16,384 bytes from standard input and prints its translation.
+// kept: `as` from or to usize and i32, which have no From; each is proved to lose nothing.
 #![tactic(auto)]
 
 use reader::{INPUT_BYTES, translate_text};

@@ -1,4 +1,5 @@
 // The mapping S: a Boolean for each value, one of which is on.
+// kept: `as` from or to usize and i32, which have no From; each is proved to lose nothing.
 ghost use Rattle.std.specs.Prelude.{◌≡◌, suc, ◌+◌, ◌-◌, ◌*◌, ◌≤◌, ◌==◌, [], ◌∷◌, not, true, map, length, position};
 ghost use Rattle.std.specs.List.{list_all};
 ghost use Rattle.formula.specs.Boolean.{words_of};

@@ -34,6 +34,7 @@ impl From<StoreFault> for Refusal {
 }
 
 // A store is known by its terms, which no call changes, and by its contents.
+// kept: each call says that the terms are the same; in one record with the contents, half of it would have to be said to stay.
 pub trait Store {
     // what its buffer is made of, as words or bytes
     ghost Cell: { Type 0 };

@@ -1,4 +1,5 @@
 // Finds the last of the pieces that a mark ends.
+// kept: `as` from or to usize and i32, which have no From; each is proved to lose nothing.
 ghost use Rattle.std.specs.Prelude.{ℕ, ◌≡◌, ◌≢◌, ◌-◌, ◌<◌, ◌≤◌, nat_lt, length, take, count_by, slice_index};
 ghost use Rattle.text_store.specs.Bytes.{Closed, PieceFrom, lows};
 

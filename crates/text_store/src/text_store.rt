@@ -1,4 +1,5 @@
 // The text store: what it keeps true, and its calls.
+// kept: `as` from or to usize and i32, which have no From; each is proved to lose nothing.
 ghost use Rattle.std.specs.Prelude.{◌≡◌, ℕ, ◌-◌, ◌<◌, true, length, take, vec_len};
 ghost use Rattle.formula.specs.Tests.{every};
 ghost use Rattle.store.specs.Stores.{put_answer, after_put, after_cut};

@@ -1,4 +1,5 @@
 // The mappings that have a Boolean for each value, tied to an inner mapping's form of it: L and R.
+// kept: `as` from or to usize and i32, which have no From; each is proved to lose nothing.
 ghost use Rattle.std.specs.Prelude.{◌≡◌, ◌≤◌, map, length};
 ghost use Rattle.formula.specs.Boolean.{words_of};
 ghost use Rattle.mapping.specs.Forms.{shifted};

@@ -1,4 +1,5 @@
 // The axioms of a variable, stored.
+// kept: `as` from or to usize and i32, which have no From; each is proved to lose nothing.
 ghost use Rattle.std.specs.Prelude.{◌≡◌, [], Ok, ◌==◌, position};
 ghost use Rattle.formula.specs.Boolean.{number};
 ghost use Rattle.mapping.specs.Memory.{flat, over};

@@ -1,4 +1,5 @@
 // What a mapping and the places of the variables make of a clause.
+// kept: `as` from or to usize and i32, which have no From; each is proved to lose nothing.
 ghost use Rattle.std.specs.Prelude.{◌≡◌, ◌≤◌, [], ◌∷◌, length, map};
 ghost use Rattle.translator.specs.Places.{place_at, form_at, reach};
 ghost use Rattle.translator.specs.Placed.{form_in};

@@ -1,4 +1,5 @@
 // A sheet in memory that is taken once.
+// kept: `as` from or to usize and i32, which have no From; each is proved to lose nothing.
 ghost use Rattle.std.specs.Prelude.{◌≡◌, ◌+◌, ◌*◌, ◌<◌, ◌≤◌, length, IfOk, IsOk, vec_len, vec_capacity};
 ghost use Rattle.formula.specs.Sheets.{clauses};
 ghost use Rattle.formula.specs.Tests.{sum_of, count};
