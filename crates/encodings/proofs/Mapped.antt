@@ -1,12 +1,7 @@
--- Words that are changed in place, one by one, and a front of memory that is changed so. Assumes nothing.
-use Rattle.std.proofs.Common.{◌≡◌, ℕ, ◌+◌, ◌-◌, ◌<◌, ◌≤◌, List, ◌++◌, map, length, get_or, take, drop, set, ℤ, pos, sym, ap, ◌∙◌, ap₂, append-nil, arith, length-append, length-drop}
+-- Words that are changed in place, one by one. Assumes nothing.
+use Rattle.std.proofs.Common.{◌≡◌, ℕ, ◌+◌, ◌<◌, ◌≤◌, List, ◌++◌, map, length, get_or, take, drop, set, ℤ, pos, ap, ◌∙◌, ap₂, append-nil, arith, length-append, length-drop}
 use Rattle.std.proofs.lemmas.List.Edits.{map_over_more}
-use Rattle.std.proofs.lemmas.List.{drop_more, drop_all, take_all, length-map, length-take, get_or_at, get_or_default, take_at, drop_at}
-use Rattle.mapping.specs.Memory.{over}
-
--- a front of memory
-pub front_is : (xs before memory : List ℤ) (k : ℕ) → k ≡ length xs → memory ≡ over xs before → take (k - 0) memory ≡ xs
-front_is xs before memory k at e = ap (take (k - 0)) e ∙ take_at xs (drop (length xs) before) (k - 0) (omega arith)
+use Rattle.std.proofs.lemmas.List.{drop_more, drop_all, take_all, length-map, length-take, get_or_at, get_or_default}
 
 module _ (f : ℤ → ℤ) where
   module _ (xs ys : List ℤ) (i : ℕ) (h : i < length xs) (inv : ys ≡ map f (take i xs) ++ drop i xs) where
@@ -24,10 +19,3 @@ module _ (f : ℤ → ℤ) where
 
   pub mapped_all : (xs ys : List ℤ) (i : ℕ) → length xs ≤ i → ys ≡ map f (take i xs) ++ drop i xs → ys ≡ map f xs
   mapped_all xs ys i h inv = inv ∙ (ap₂ (λ a b. map f a ++ b) (take_all i xs h) (drop_all i xs h) ∙ append-nil (map f xs))
-
-  -- a front of memory, changed
-  pub front_mapped : (xs before memory changed : List ℤ) (k : ℕ) → k ≡ length xs → memory ≡ over xs before →
-      changed ≡ map f (take (k - 0) memory) → changed ++ drop (k - 0) memory ≡ over (map f xs) before
-  front_mapped xs before memory changed k at e m =
-      ap₂ ◌++◌ (m ∙ ap (map f) (front_is xs before memory k at e))
-      (ap (drop (k - 0)) e ∙ (drop_at xs (drop (length xs) before) (k - 0) (omega arith) ∙ ap (λ i. drop i before) (sym (length-map xs f))))

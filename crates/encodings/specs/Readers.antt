@@ -119,13 +119,14 @@ pub record LawfulLists (m w : ℕ) (axioms : List Clause) (list : ℕ → List �
   pub list_least : (i : ℕ) → is_value m i ≡ true → 1 ≤ length (list i)
   pub list_most : (i : ℕ) → is_value m i ≡ true → length (list i) ≤ 8
 
+-- a literal of fewer Booleans is one of more
+pub local_more : (w n : ℕ) → w ≤ n → (l : ℤ) → local w l ≡ true → local n l ≡ true
+local_more w n h l own = grind (arith, nat_tests)
+
 -- such lists speak of the Booleans 1 to 127
 pub lists_narrow : (m w : ℕ) (axioms : List Clause) (list : ℕ → List ℤ) → LawfulLists m w axioms list →
     (i : ℕ) → is_value m i ≡ true → every (local 127) (list i) ≡ true
-lists_narrow m w axioms list L i v = every_weaker (local w) (local 127) (narrower w 127 L.width_most) (list i) (L.list_local i v)
-  where
-    narrower : (a b : ℕ) → a ≤ b → (l : ℤ) → local a l ≡ true → local b l ≡ true
-    narrower a b h l e = grind (arith, nat_tests)
+lists_narrow m w axioms list L i v = every_weaker (local w) (local 127) (local_more w 127 L.width_most) (list i) (L.list_local i v)
 
 lists_forms : (m w : ℕ) (axioms : List Clause) (list : ℕ → List ℤ) → LawfulLists m w axioms list →
     LawfulForms m w axioms (λ s i. form_by (list i) s)

@@ -11,7 +11,7 @@ use arrayvec::ArrayVec;
 use formula::Sign;
 use mapping::{Choice, FORM_LITERALS, Kind, Shape};
 
-// What lists literals for each value of each size, to be all true at that value alone.
+// What lists literals for each value of each size.
 pub trait Listed {
     ghost list: { ℕ → ℕ → List ℤ };
 
@@ -54,7 +54,7 @@ pub fn write_form<L: Listed>(
     let literals = lists.literals(choice);
     let count = literals.len();
     places[..count].copy_from_slice(literals.as_slice());
-    if let Sign::Minus = sign {
+    if sign == Sign::Minus {
         turn(&mut places[..count]);
     }
     Shape {

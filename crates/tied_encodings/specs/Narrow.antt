@@ -1,7 +1,5 @@
 -- The inner literals of a value are of few Booleans. Assumes nothing.
-use Rattle.std.specs.Prelude.{◌≡◌, ℕ, ◌+◌, ◌≤◌, true, ℤ}
-use Rattle.std.proofs.Common.{arith}
-use Rattle.std.proofs.lemmas.Bool.Decides.{nat_tests}
+use Rattle.std.specs.Prelude.{◌≡◌, ℕ, ◌+◌, true}
 use Rattle.formula.proofs.Tests.{every_weaker}
 use Rattle.formula.specs.Boolean.{local}
 use Rattle.formula.specs.Tests.{every}
@@ -9,11 +7,8 @@ use Rattle.formula.specs.declared.signed.Sign.TheVariants.{Plus}
 use Rattle.mapping.specs.Forms.{members}
 use Rattle.mapping.specs.Meanings.{Meaning, is_size, is_value}
 use Rattle.encodings.proofs.Tying.{every_shifted_local}
+use Rattle.encodings.specs.Readers.{local_more}
 use Rattle.encodings.specs.Ties.{inner_list, Tieable}
-
--- a literal of fewer Booleans is one of more
-local_more : (w n : ℕ) → w ≤ n → (l : ℤ) → local w l ≡ true → local n l ≡ true
-local_more w n h l own = grind (arith, nat_tests)
 
 pub inner_narrow : (M : Meaning) → Tieable M → (m i : ℕ) → is_size m ≡ true → is_value m i ≡ true → every (local 127) (inner_list M m i) ≡ true
 inner_narrow M T m i s v =
