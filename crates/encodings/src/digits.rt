@@ -1,5 +1,5 @@
 // The binary digits of a size.
-// kept: `as` from or to usize and i32, which have no From; each is proved to lose nothing.
+// kept: `as` from u64 to u32: try_from would answer an Err that cannot be; it is proved to lose nothing.
 ghost use Rattle.std.specs.Prelude.{◌≡◌};
 ghost use Rattle.encodings.specs.Digits.{digits, spare};
 

@@ -5,7 +5,7 @@ ghost use Rattle.formula.specs.Refusals.{layer_letter, reason_number, reason_wor
 use std::fmt;
 
 // The two numbers that a refusal carries, each 0 where none is named.
-// kept: two numbers and no options, since both are printed, and a size or a place that is named may be 0 too.
+// kept: two numbers and no options, since both are printed, and a 0 is printed where none is named.
 #[derive(Clone, Copy, Debug, Default, PartialEq, Eq)]
 pub struct Details {
     pub first: u64,

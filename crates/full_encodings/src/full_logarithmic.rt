@@ -79,6 +79,7 @@ impl Mapping for FullLogarithmic {
         if !in_sizes(size) || bits.len() != count as usize {
             return None;
         }
+        // kept: one loop that sums, and ends at a byte that is no bit; to test all and then sum goes over the bits twice.
         let mut number = 0;
         for (digit, bit) in bits.iter().enumerate() {
             match *bit {

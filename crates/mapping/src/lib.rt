@@ -54,6 +54,7 @@ pub const FORM_LITERALS: usize = 8;
 
 // A mapping is known by its meaning alone, which keeps the laws for every size; code asks for it by these calls.
 // Out of range (sizes 2 to 64, values 1 to the size) the answers are 0, empty or none.
+// kept: 0 Booleans and any of nothing, and no Option, since a meaning says something of every size.
 pub trait Mapping {
     ghost meaning: { Meaning };
 

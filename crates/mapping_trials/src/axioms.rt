@@ -11,6 +11,7 @@ impl<M: Mapping> Subject<M> {
     }
 
     // The number of words, and the words and the memory behind them.
+    // kept: forms.rt fills what is behind in the same way, but of places: a function of both is no plainer than two lines.
     pub fn try_axioms(&self, tally: &mut Tally) -> Result<(), AllocError> {
         let words = self.coding.axioms(tally.heap)?;
         let mut wanted = fillers::<AXIOM_WORDS>().map(i64::from);

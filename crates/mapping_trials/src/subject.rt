@@ -89,6 +89,7 @@ impl<M: Mapping> Subject<M> {
     }
 
     // The form that the mapping gives of a value with a sign.
+    // kept: signs and kinds are matched, since neither type is of this crate, and so no From can be written here.
     pub fn form(&self, value: u32, sign: Sign) -> Formed {
         let mut places = fillers();
         let sign = match sign {

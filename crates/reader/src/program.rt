@@ -96,7 +96,7 @@ fn refuse_text(heap: Global) -> Result<Vec<u8>, AllocError>
 }
 
 // The first line names the mapping.
-// kept: one match on `[Some(Line::Mapping(name)), rest @ ..]` leaves its last arm, four kinds of first lines, to be proved by hand; here none is.
+// kept: one match on first line and rest leaves its last arm, four kinds of first lines, to be proved by hand; here none is.
 fn translate_from(
     heap: Global,
     first: &Option<Line>,

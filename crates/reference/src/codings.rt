@@ -105,6 +105,7 @@ impl Coding {
     }
 
     // Whether a Boolean is true in a row of a value.
+    // kept: a number, a value and a row are what is asked about, here and below, and make no thing of their own.
     fn bit(self, number: i64, value: i64, row: Row) -> bool {
         match self.saying(number) {
             Saying::Value(i) => value == i,
@@ -218,6 +219,7 @@ impl Coding {
     }
 
     // The axioms, each ended by a 0.
+    // kept: clauses in one list, since a mapping writes them so, and all of its words are compared.
     pub fn axioms(self, heap: Global) -> Result<Vec<i64>, AllocError> {
         let mut words = Vec::new(heap);
         if !self.in_range() {

@@ -135,6 +135,7 @@ pub fn read(heap: Global, line: &[u8]) -> Result<Line, Fault> {
 }
 
 // The lines of an input: a newline ends a line, and the last line may do without.
+// kept: byte by byte, for the reason that the reader of a line has.
 pub fn split(heap: Global, input: &[u8]) -> Result<Vec<Vec<u8>>, AllocError> {
     let mut lines = Vec::new(heap);
     let mut line = Vec::new(heap);

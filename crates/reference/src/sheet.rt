@@ -48,6 +48,7 @@ fn count_turns(forms: &[Form]) -> usize {
 }
 
 // Adds the clause of a turn of so many. The last choice turns fastest.
+// kept: what the choices behind come to is divided down from form to form, as the wheels of a counter turn.
 fn put_clause(
     words: &mut Vec<i64>,
     forms: &[Form],

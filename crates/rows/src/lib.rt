@@ -34,6 +34,7 @@ fn make_call<M: Mapping, S: Store>(workbook: &mut Workbook<M, S>, call: &Call) -
 }
 
 // Makes every call of a row, in order.
+// kept: places for answers are handed in, more of them than calls perhaps, and what is behind is promised to stay.
 fn make_calls<M: Mapping, S: Store>(
     workbook: &mut Workbook<M, S>,
     row: &[Call],

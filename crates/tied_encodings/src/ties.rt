@@ -38,7 +38,7 @@ impl Tie<'_> {
     {
         let end = self.others.len() + 1;
         memory[0] = self.literal;
-        // kept: the index, since nothing is known of memory that is written through `iter_mut().zip(..)`.
+        // kept: the index; to copy the others first, and turn the copies in place, is a step more and no plainer.
         for (place, other) in self.others.iter().enumerate() {
             memory[place + 1] = -*other;
         }

@@ -28,7 +28,7 @@ fn put_clauses<S: Store>(store: &mut S, words: &mut [i32]) -> Result<(), StoreFa
     ensures same { S.Store.terms store.new ≡ S.Store.terms store.old }
     ensures kept { words.new ≡ words.old }
 {
-    // kept: a place by hand; after a loop over `split_inclusive_mut` it stays open that the words are as they were.
+    // kept: a place by hand; tried over `split_inclusive_mut`, after which it stays open that the words are as they were.
     let mut begin = 0;
     while let Some(length) = find_end(&words[begin..]) {
         let end = begin + length;

@@ -20,6 +20,7 @@ pub(crate) struct Layout<'a, M> {
 
 impl<M: Mapping> Layout<'_, M> {
     // The place of a variable, and no place where there is none of its number.
+    // kept: a place of size 0 and no Option, since the definition has it so, and its form is any of nothing.
     fn place(&self, variable: u32) -> Place
         ensures { result ≡ place_at self.now.places.now variable }
     {
@@ -41,6 +42,7 @@ impl<M: Mapping> Layout<'_, M> {
     }
 
     // The forms of the literals of a clause, in order: one for each.
+    // kept: that there are at most 16 is asked here and where words are counted; a slice that knows it would be a type more.
     pub(crate) fn forms(&self, literals: &[Literal]) -> ArrayVec<PlacedForm, CLAUSE_LITERALS>
         requires { length literals.now ≤ 16 }
         ensures { map form_in result.items ≡ map (form_at M.Mapping.meaning self.now.places.now) literals.now }

@@ -9,6 +9,7 @@ use arrayvec::ArrayVec;
 use mapping::{FORM_LITERALS, Kind};
 
 // A form over its variable's own Booleans, and the number of Booleans before those.
+// kept: kind and literals side by side, and no HeldForm within, since few speaks of the literals and what is asked of a form reads both.
 #[derive(Drop)]
 pub(crate) struct PlacedForm {
     pub(crate) kind: Kind,
@@ -17,6 +18,7 @@ pub(crate) struct PlacedForm {
     ghost few: { array_vec_len literals ≤ 8 },
 }
 
+// kept: by hand, since a kind has no value that goes without saying; a vector of fixed capacity asks for one.
 impl Default for PlacedForm {
     fn default() -> PlacedForm {
         PlacedForm {
@@ -52,6 +54,7 @@ impl PlacedForm {
 }
 
 // A literal, moved behind the Booleans before its variable's own.
+// kept: mapping's move_words goes over words that lie in memory; here one literal is moved as it is pushed, and none is an end.
 pub(crate) fn shift(literal: i32, start: u32) -> i32
     requires { number (shifted start literal) < 2 ^ 31 }
     ensures { result ≡ shifted start literal }

@@ -42,6 +42,7 @@ pub(crate) fn put_product<S: Store>(
     };
     let literals = first.literals.as_slice();
     let used = front.len();
+    // kept: a match, since a form of either kind takes another way from here.
     match first.kind {
         Kind::AllOf => {
             for choice in literals {

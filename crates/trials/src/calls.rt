@@ -22,6 +22,7 @@ const BYTES: usize = 1_000_000;
 const WORDS: usize = 111_111;
 
 // A literal as the second translator takes it.
+// kept: the sign is matched, since neither type is of this crate, and so no From can be written here.
 fn signed(literal: &Literal) -> Signed {
     Signed {
         sign: match literal.sign {

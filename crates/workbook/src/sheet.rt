@@ -28,6 +28,7 @@ enum Slot {
 
 // At most 255 variables, 1,024 entries and 4,096 literals, for which there is memory, and the words in which a mapping hands out axioms.
 // The literals of all clauses lie one behind the other, and each slot says how many are its own.
+// kept: places beside the slots, since a clause is filed by all of them, lent as one slice.
 // kept: literals in one list, cut by counts: the memory is taken once, and a Vec in each clause would allocate in a call that must not.
 // kept: ghost fields and no Model: finish promises the whole sheet back, its addresses too, and a Value that has them is no plainer.
 #[derive(Drop)]
