@@ -2,7 +2,7 @@
 // no row of bits is read as a value. To declare that they do, as the edit in must-fail/ does, is refused.
 #![tactic(auto)]
 
-ghost use Rattle.std.specs.Prelude.{◌≡◌};
+ghost use Rattle.std.specs.Prelude.{◌≡◌, true};
 ghost use Rattle.formula.specs.Boolean.{words_of};
 ghost use Rattle.mapping.specs.Forms.{members, shape_of};
 ghost use Rattle.mapping.specs.Meanings.{Lawful};
@@ -20,7 +20,8 @@ pub struct Contradicting;
 
 // The laws do not hold of it, so nothing that is proved of every mapping says anything of a catalogue that it would empty.
 pub fn is_no_mapping() -> bool
-    ensures { Lawful contradicting → ⊥ }
+    ensures answer { result ≡ true }
+    ensures none { Lawful contradicting → ⊥ }
 {
     true
 }

@@ -2,5 +2,5 @@
 use Rattle.sample_mappings.proofs.Clash.{no_law}
 use Rattle.sample_mappings.proofs.is_no_mapping.Goals as goal
 
-pub returns : goal.returns
-returns c = no_law
+pub returns-clause-none : goal.returns-clause-none
+returns-clause-none c = no_law
