@@ -13,7 +13,7 @@ written_more memory n w ws h =
     ap₂ (λ a b. a ++ (ws ++ b)) (take_more_set memory n w h) (drop-set-lt (n + 1 + length ws) memory n w (omega arith) ∙ ap (λ k. drop k memory) e) ∙
     append_assoc (take n memory) (w ∷ []) (ws ++ drop (n + suc (length ws)) memory)
 
-written_none : (memory : List ℤ) (n : ℕ) → written memory n [] ≡ memory
+pub written_none : (memory : List ℤ) (n : ℕ) → written memory n [] ≡ memory
 written_none memory n = let e : n + 0 ≡ n = omega arith in ap (λ k. take n memory ++ drop k memory) e ∙ take-append-drop n memory
 
 -- words at the front

@@ -10,7 +10,7 @@ module _ {Cell : Type 0} (K : Contents Cell) where
   same_contents p q = ap₂ (λ xs ys. record { list = xs; raw = ys; memory = K.memory }) p q
 
   -- to cut behind the end changes nothing
-  cut_none : (n : ℕ) → length K.list ≤ n → length K.raw ≤ n → after_cut n K ≡ K
+  pub cut_none : (n : ℕ) → length K.list ≤ n → length K.raw ≤ n → after_cut n K ≡ K
   cut_none n h k = same_contents (take_all n K.list h) (take_all n K.raw k)
 
   -- a cut to n is one to the lesser of n and the number of clauses

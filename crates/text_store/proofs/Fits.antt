@@ -9,7 +9,7 @@ use Rattle.store.specs.Stores.{Terms, Contents, fits, unfit, words_left, words_a
 use Rattle.store.specs.declared.StoreFault.{StoreFault}
 use Rattle.text_store.specs.ByteStores.{numbers_answer}
 
-number_is : (l : ℤ) → number l ≡ nat_abs l
+pub number_is : (l : ℤ) → number l ≡ nat_abs l
 number_is (pos n) = refl
 number_is (negsuc n) = refl
 

@@ -60,7 +60,7 @@ module _ {line : Clause → List ℕ} {mark bound most : ℕ} {read : List ℕ �
         omega (arith, front.text.count_is, front.text.words_are, words_long (read_lines mark read (take held memory)))
 
     module _ (end : ℕ) (after : List ℕ) (end_is : end ≡ held + length (line c ++ mark ∷ [])) (after_is : after ≡ at_place held (line c ++ mark ∷ []) memory) where
-      put_long : length after ≡ length memory
+      pub put_long : length after ≡ length memory
       put_long = ap length after_is ∙ length_at_place held (line c ++ mark ∷ []) memory put_within
 
       longer : take end after ≡ take held memory ++ (line c ++ mark ∷ [])
