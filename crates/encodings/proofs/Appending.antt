@@ -1,5 +1,5 @@
 -- Words written one by one, or part by part, from a place of memory on.
-use Rattle.std.proofs.Common.{◌≡◌, ℕ, suc, ◌+◌, ◌-◌, ◌<◌, ◌≤◌, List, [], ◌∷◌, ◌++◌, length, get_or, take, drop, set, ℤ, pos, sym, refl, ap, ◌∙◌, ap₂, append_assoc, arith, length-append, length-drop}
+use Rattle.std.proofs.Common.{◌≡◌, ℕ, suc, ◌+◌, ◌-◌, ◌<◌, ◌≤◌, List, [], ◌∷◌, ◌++◌, length, get_or, take, drop, set, ℤ, pos, sym, refl, ap, ◌∙◌, ap₂, append_assoc, arith, length-append, length-drop, subst}
 use borrow.Rule.Slice.PartMut.{put_mid}
 use Rattle.std.proofs.lemmas.List.{take_more_set, drop-set-lt, take-append-drop, length-set, length-take, take_rest, take_at, drop_all, drop_at, drop-drop, append-nil}
 use Rattle.std.proofs.Math.Seq.{drop-cons, set-append_seam}
@@ -80,6 +80,18 @@ appending_one before memory start n x rest all h w = record {
   words = let e = w.words in omega arith;
   long = length-set memory n x ∙ w.long;
 }
+
+-- three words set, one behind the other
+pub appending_three : (before memory : List ℤ) (start n : ℕ) (x y z : ℤ) (rest all : List ℤ) → n + 3 ≤ length before →
+    Appending before memory start n (x ∷ y ∷ z ∷ rest) all → Appending before (set (set (set memory n x) (n + 1) y) (n + 2) z) start (n + 3) rest all
+appending_three before memory start n x y z rest all h w =
+    let two : n + 1 + 1 ≡ n + 2 = omega arith in
+    let three : n + 2 + 1 ≡ n + 3 = omega arith in
+    let one = appending_one before memory start n x (y ∷ z ∷ rest) all (omega arith) w in
+    let next = appending_one before (set memory n x) start (n + 1) y (z ∷ rest) all (omega arith) one in
+    subst (λ k. Appending before (set (set (set memory n x) (n + 1) y) (n + 2) z) start k rest all) three
+    (appending_one before (set (set memory n x) (n + 1) y) start (n + 2) z rest all (omega arith)
+    (subst (λ k. Appending before (set (set memory n x) (n + 1) y) start k (z ∷ rest) all) two next))
 
 -- several words at once
 pub appending_many : (before memory next : List ℤ) (start n : ℕ) (xs rest all : List ℤ) → n + length xs ≤ length before → next ≡ written memory n xs →

@@ -1,11 +1,11 @@
 -- Clauses written at the front of memory.
-use Rattle.std.proofs.Common.{◌≡◌, ℕ, ◌+◌, ◌-◌, ◌<◌, ◌≤◌, List, [], ◌∷◌, ◌++◌, length, take, drop, ℤ, sym, ap, ◌∙◌, subst, append-nil, arith, length-append, length-drop}
+use Rattle.std.proofs.Common.{◌≡◌, ℕ, ◌+◌, ◌-◌, ◌<◌, ◌≤◌, List, [], ◌∷◌, ◌++◌, length, take, drop, ℤ, sym, ap, ◌∙◌, subst, append-nil, arith, length-append, length-drop, set, pos}
 use borrow.Rule.Slice.PartMut.{put_mid}
 use Rattle.std.proofs.lemmas.List.{length-take}
 use Rattle.formula.specs.Boolean.{Clause, words, words_of}
 use Rattle.mapping.proofs.Moving.{length_flat, flat_append}
 use Rattle.mapping.specs.Memory.{ended, flat, over}
-use Rattle.encodings.proofs.Appending.{Appending, appending_none, appending_all, appending_many, written_start, written_part}
+use Rattle.encodings.proofs.Appending.{Appending, appending_none, appending_all, appending_many, written_start, written_part, appending_three}
 
 -- a pass over clauses: with n words written, the clauses that are left make memory what it is to be
 abbrev pub Writing : List ℤ → List ℤ → ℕ → List Clause → List Clause → Type 0
@@ -18,6 +18,11 @@ pub writing_all : (before memory : List ℤ) (n : ℕ) (all : List Clause) → W
     (n ≡ words_of all) × (memory ≡ over (flat all) before)
 writing_all before memory n all w =
     let done = appending_all before memory 0 n (flat all) w in (omega (arith, done.0, length_flat all), done.1 ∙ written_start before (flat all))
+
+-- a clause of two literals, set word by word
+pub writing_pair : (before memory : List ℤ) (n : ℕ) (x y : ℤ) (rest all : List Clause) → n + 3 ≤ length before →
+    Writing before memory n ((x ∷ y ∷ []) ∷ rest) all → Writing before (set (set (set memory n x) (n + 1) y) (n + 2) (pos 0)) (n + 3) rest all
+writing_pair before memory n x y rest all h w = appending_three before memory 0 n x y (pos 0) (flat rest) (flat all) h w
 
 -- clauses written into the part of memory that is left, which was lent
 pub writing_part : (before memory part : List ℤ) (n long : ℕ) (cs rest all : List Clause) → long ≡ length memory → words_of all ≤ length before →

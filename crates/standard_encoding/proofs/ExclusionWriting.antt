@@ -1,5 +1,5 @@
 -- S's exclusions written into memory.
-use Rattle.std.proofs.Common.{◌≡◌, ℕ, suc, ◌+◌, ◌-◌, ◌*◌, ◌<◌, ◌≤◌, List, [], ◌∷◌, ◌++◌, map, length, take, drop, ℤ, sym, refl, ap, ◌∙◌, subst, ap₂, ⊎_elim, arith}
+use Rattle.std.proofs.Common.{◌≡◌, ℕ, suc, ◌+◌, ◌-◌, ◌*◌, ◌<◌, ◌≤◌, List, [], ◌∷◌, ◌++◌, map, length, take, drop, ℤ, sym, refl, ap, ◌∙◌, subst, ap₂, ⊎_elim, arith, set, pos}
 use borrow.Rule.Slice.PartMut.{put_mid}
 use Rattle.std.proofs.lemmas.Bool.{cases_lt}
 use Rattle.formula.proofs.Tests.{sum_append}
@@ -11,7 +11,7 @@ use Rattle.encodings.specs.Standard.{not_both, exclusions}
 use Rattle.encodings.specs.Values.{value_literal}
 use Rattle.encodings.proofs.Exclusions.{excluded, exclusions_are}
 use Rattle.encodings.specs.Runs.{numbers_more, numbers_none, words_numbers}
-use Rattle.encodings.proofs.Writing.{Writing, ClauseWritten, writing_none, writing_clause, writing_room, writing_all, writing_part}
+use Rattle.encodings.proofs.Writing.{Writing, ClauseWritten, writing_none, writing_clause, writing_room, writing_all, writing_part, writing_pair}
 
 -- the exclusions of value v and each that follows it, and those of them that are left from value j on
 abbrev pub pairs_of : ℕ → ℕ → List Clause
@@ -47,6 +47,16 @@ module _ (before memory : List ℤ) (n m v j : ℕ) where
       ap (map (not_both v)) (numbers_more j (m + 1) (omega arith)) ∙ ap₂ (λ (a b : ℤ). (a ∷ b ∷ []) ∷ left) (sym first) (sym second) in
       writing_clause before memory part n long k (x ∷ y ∷ []) left (pairs_of m v) l (omega (arith, pairs_words m v)) is
       (subst (λ cs. Writing before memory n cs (pairs_of m v)) parts w)
+
+  -- the same for a pair set word by word
+  pub pairs_more_set : (x y : ℤ) → j ≤ m → n + 3 ≤ length before → x ≡ opposite (value_literal v) → y ≡ opposite (value_literal j) →
+      Writing before memory n (pairs_left m v j) (pairs_of m v) →
+      Writing before (set (set (set memory n x) (n + 1) y) (n + 2) (pos 0)) (n + 3) (pairs_left m v (j + 1)) (pairs_of m v)
+  pairs_more_set x y h l first second w =
+      let left = pairs_left m v (j + 1) in
+      let parts : pairs_left m v j ≡ (x ∷ y ∷ []) ∷ left =
+      ap (map (not_both v)) (numbers_more j (m + 1) (omega arith)) ∙ ap₂ (λ (a b : ℤ). (a ∷ b ∷ []) ∷ left) (sym first) (sym second) in
+      writing_pair before memory n x y left (pairs_of m v) l (subst (λ cs. Writing before memory n cs (pairs_of m v)) parts w)
 
   pub pairs_all : m < j → Writing before memory n (pairs_left m v j) (pairs_of m v) → (n ≡ 3 * (m - v)) × (memory ≡ over (flat (pairs_of m v)) before)
   pairs_all h w =

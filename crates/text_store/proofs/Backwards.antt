@@ -1,9 +1,10 @@
 -- The last piece of bytes that end with a mark, found from where the bytes behind the mark before it begin. Assumes nothing.
-use Rattle.std.proofs.Common.{◌≡◌, ℕ, zero, suc, ◌+◌, ◌-◌, ◌<◌, ◌≤◌, Bool, true, false, cond, not, eqb, ltb, List, [], ◌∷◌, ◌++◌, length, get_or, take, drop, sym, refl, ap, ◌∙◌, subst, inl, inr, add-one, arith, take-append-drop}
+use Rattle.std.proofs.Common.{◌≡◌, ℕ, zero, suc, ◌+◌, ◌-◌, ◌<◌, ◌≤◌, Bool, true, false, cond, not, eqb, ltb, List, [], ◌∷◌, ◌++◌, length, get_or, take, drop, sym, refl, ap, ◌∙◌, subst, inl, inr, add-one, arith, take-append-drop, length-append}
 use Rattle.std.specs.List.{count_by}
-use Rattle.std.proofs.lemmas.List.{take_at, take_more, length_push, take-append-le, drop-append-le}
+use Rattle.std.proofs.lemmas.List.{take_at, take_more, length_push, take-append-le, drop-append-le, length-take-le}
 use Rattle.std.proofs.lemmas.List.Recursion.{is_count_by}
 use Rattle.std.proofs.lemmas.Bool.{and_from, not_from_false, ne_eqb}
+use Rattle.std.proofs.lemmas.Bool.Decides.{nat_tests}
 use Rattle.text_store.specs.Bytes.{clean, Closed, lows, PieceFrom}
 
 -- the low bytes are those that a test finds
@@ -13,6 +14,10 @@ lows_found bound bytes = is_count_by (lows bound) (λ b. ltb b bound) refl (λ b
     step : (found : Bool) (n : ℕ) → cond found 1 0 + n ≡ cond found (1 + n) n
     step true n = refl
     step false n = omega arith
+
+pub lows_le : (bound : ℕ) (bytes : List ℕ) → lows bound bytes ≤ length bytes
+lows_le bound [] = omega arith
+lows_le bound (b ∷ bytes) = let h = lows_le bound bytes in grind (arith, nat_tests)
 
 module _ (mark : ℕ) where
   -- behind the last mark no byte is the mark
@@ -59,3 +64,10 @@ module _ (mark : ℕ) where
       before_behind h =
           let front = take (length bytes - 1) bytes in
           subst (Closed mark) (sym (take-append-le start front (mark ∷ []) within) ∙ ap (take start) whole) (closed_before front start within h)
+
+-- how far the count can be
+module _ (mark bound : ℕ) (bytes : List ℕ) where
+  pub piece_within : (start count : ℕ) → PieceFrom mark bound bytes start count → start + count ≤ length bytes
+  piece_within start count p =
+      let few = lows_le bound (p.piece ++ mark ∷ []) in
+      omega (arith, ap length p.whole, length-append (take start bytes) (p.piece ++ mark ∷ []), length-take-le start bytes (omega arith), p.count_is)

@@ -8,3 +8,4 @@ pub mod Lines
 pub mod Literals
 pub mod Marks
 pub mod Places
+pub mod Rows

@@ -1,10 +1,10 @@
 -- Writes at the front of a buffer and at a place. Assumes nothing.
-use Rattle.std.proofs.Common.{◌≡◌, ℕ, suc, ◌+◌, ◌-◌, ◌<◌, ◌≤◌, List, [], ◌∷◌, ◌++◌, length, take, drop, set, sym, refl, ap, ◌∙◌, append_assoc, append-nil, add-one, arith, length-drop, drop-cons}
+use Rattle.std.proofs.Common.{◌≡◌, ℕ, suc, ◌+◌, ◌-◌, ◌<◌, ◌≤◌, List, [], ◌∷◌, ◌++◌, length, take, drop, set, sym, refl, ap, ◌∙◌, append_assoc, append-nil, add-one, arith, length-drop, drop-cons, add-zero, length-append, take-append-drop}
 use borrow.Rule.Slice.PartMut.{put_mid, post_of}
 use Rattle.std.proofs.Math.ListN.{drop_of_length-le}
 use lib.Seq.{paste}
 use Rattle.std.proofs.Math.Seq.{set-append_seam}
-use Rattle.std.proofs.lemmas.List.Edits.{paste_all, take-paste, length-paste}
+use Rattle.std.proofs.lemmas.List.Edits.{paste_all, take-paste, length-paste, paste-paste}
 use Rattle.std.proofs.lemmas.List.{length_push, drop-drop, take_all}
 use Rattle.text_store.specs.Bytes.{at_place, WroteFront}
 
@@ -40,6 +40,17 @@ module _ (place : ℕ) (buffer : List ℕ) where
 -- a write is a copy of all of its bytes
 as_paste : (place : ℕ) (bytes buffer : List ℕ) → paste buffer place bytes (length bytes) ≡ at_place place bytes buffer
 as_paste place bytes buffer = paste_all buffer place bytes (length bytes) refl
+
+pub write_nothing : (place : ℕ) (buffer : List ℕ) → at_place place [] buffer ≡ buffer
+write_nothing place buffer = ap (λ n. take place buffer ++ drop n buffer) (add-zero place) ∙ take-append-drop place buffer
+
+pub write_behind : (place : ℕ) (xs ys buffer : List ℕ) → place ≤ length buffer → at_place (place + length xs) ys (at_place place xs buffer) ≡ at_place place (xs ++ ys) buffer
+write_behind place xs ys buffer h =
+    sym (as_paste (place + length xs) ys (at_place place xs buffer))
+    ∙ ap (λ b. paste b (place + length xs) ys (length ys)) (sym (as_paste place xs buffer))
+    ∙ paste-paste buffer place xs ys (length xs) (length ys) refl refl h
+    ∙ ap (paste buffer place (xs ++ ys)) (sym (length-append xs ys))
+    ∙ as_paste place (xs ++ ys) buffer
 
 pub length_at_place : (place : ℕ) (bytes buffer : List ℕ) → place + length bytes ≤ length buffer → length (at_place place bytes buffer) ≡ length buffer
 length_at_place place bytes buffer h =

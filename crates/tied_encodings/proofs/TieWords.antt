@@ -60,6 +60,9 @@ implications_all before memory n i x ls h w =
 abbrev pub converse : List ℤ → List ℤ
 converse ls = map opposite ls ++ pos 0 ∷ []
 
+pub converse_length : (ls : List ℤ) → length (converse ls) ≡ length ls + 1
+converse_length ls = length-append (map opposite ls) (pos 0 ∷ []) ∙ ap (λ n. n + 1) (length-map ls opposite)
+
 pub converse_step : (before memory : List ℤ) (start n i : ℕ) (a : ℤ) (ls all : List ℤ) → n < length before → i < length ls →
     a ≡ opposite (get_or ls i (pos 0)) → Appending before memory start n (converse (drop i ls)) all → Appending before (set memory n a) start (n + 1) (converse (drop (i + 1) ls)) all
 converse_step before memory start n i a ls all room h e w =
@@ -72,7 +75,7 @@ pub converse_all : (memory last : List ℤ) (n i : ℕ) (x : ℤ) (ls : List ℤ
 converse_all memory last n i x ls room at h w =
     let front = set memory 0 x in
     let count = w.words in
-    let long : length (converse ls) ≡ length ls + 1 = length-append (map opposite ls) (pos 0 ∷ []) ∙ ap (λ k. k + 1) (length-map ls opposite) in
+    let long = converse_length ls in
     let one : length (converse (drop i ls)) ≡ 1 = ap (λ ks. length (converse ks)) (drop_all i ls h) in
     let place : i + 1 ≡ n = omega arith in
     let done = appending_one front last 1 (i + 1) (pos 0) [] (converse ls) (omega (arith, length-set memory 0 x))

@@ -16,6 +16,14 @@ use Rattle.translator.specs.Places.{form_at, placed_clause, reach}
 use Rattle.translator.specs.Placed.{form_in, product_behind, Takes, Ready}
 use Rattle.translator.proofs.Fitting.{form_fits, forms_fit, product_fits, all_small}
 
+-- an error is never Ok
+abbrev Failed : Result (Unit {0}) StoreFault → Type 0
+Failed (Ok u) = ⊥
+Failed (Err e) = Unit {0}
+
+pub never_ok : {P : Type 0} (e : StoreFault) (u : Unit {0}) → Err e ≡ Ok u → P
+never_ok e u h = absurd (subst Failed h tt)
+
 module _ {Cell : Type 0} (T : Terms Cell) (K : Contents Cell) where
   pub room_ok : (h n : ℕ) (u : Unit {0}) → room_answer T K h n ≡ Ok u → (h ≤ T.largest) × (n ≤ words_left T K)
   room_ok h n u ok = ⊎_elim
