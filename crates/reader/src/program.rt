@@ -41,10 +41,10 @@ fn print_row<M: Mapping + Drop>(
         store,
         sheet: _,
     } = workbook.finish();
+    let mut out = Vec::new(heap);
     let mut text = String::new(heap);
-    print_refusals(&mut text, lines, answers)?;
-    print_header(&mut text, booleans, clauses)?;
-    let mut out = text.into_bytes();
+    print_refusals(&mut out, &mut text, lines, answers)?;
+    print_header(&mut out, &mut text, booleans, clauses)?;
     out.extend_from_slice(store.held())?;
     Ok(out)
 }
