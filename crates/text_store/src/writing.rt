@@ -16,7 +16,7 @@ fn count_digits(number: u32) -> usize
     number.ilog10() as usize + 1
 }
 
-// A literal and the space behind it.
+// A literal and the space behind it. It stays out of line, so that a put is small enough to be built into its callers.
 #[inline(never)]
 fn write_literal(out: &mut [u8], literal: i32) -> usize
     requires { length (text_literal literal) ≤ length out.old }
