@@ -1,7 +1,6 @@
 // Finds the last of the pieces that a mark ends.
-// kept: `as` from or to usize and i32, which have no From; each is proved to lose nothing.
-ghost use Rattle.std.specs.Prelude.{ℕ, ◌≡◌, ◌≢◌, ◌-◌, ◌<◌, ◌≤◌, nat_lt, length, take, count_by, slice_index};
-ghost use Rattle.text_store.specs.Bytes.{Closed, PieceFrom, lows};
+ghost use Rattle.std.specs.Prelude.{◌<◌, length, take};
+ghost use Rattle.text_store.specs.Bytes.{Closed, PieceFrom};
 
 // The last piece of bytes: where it begins, and how many of its bytes are below a bound.
 #[derive(Clone, Copy)]
@@ -11,6 +10,7 @@ pub(crate) struct Piece {
 }
 
 // It begins behind the mark before the one at the end, or at the start.
+// kept: it counts as it searches; by rposition and filter().count() each byte was read twice, in twice the time.
 pub(crate) fn last_piece(bytes: &[u8], mark: u8, bound: u8) -> Piece
     requires closed { Closed mark bytes.now }
     requires some { 0 < length bytes.now }
