@@ -1,5 +1,6 @@
 pub mod Backwards
 pub mod Cuts
+pub mod Figures
 pub mod Fits
 pub mod Fronts
 pub mod Held
