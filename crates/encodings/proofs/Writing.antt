@@ -1,7 +1,7 @@
 -- Clauses written at the front of memory.
-use Rattle.std.proofs.Common.{◌≡◌, ℕ, ◌+◌, ◌-◌, ◌<◌, ◌≤◌, List, [], ◌∷◌, ◌++◌, length, take, drop, ℤ, sym, ap, ◌∙◌, subst, append-nil, arith, length-append, length-drop, set, pos}
+use Rattle.std.proofs.Common.{◌≡◌, ℕ, ◌+◌, ◌-◌, ◌<◌, ◌≤◌, List, [], ◌∷◌, ◌++◌, length, take, drop, ℤ, sym, ap, ◌∙◌, subst, append-nil, arith, length-append, length-drop, set, pos, ap₂}
 use borrow.Rule.Slice.PartMut.{put_mid}
-use Rattle.std.proofs.lemmas.List.{length-take}
+use Rattle.std.proofs.lemmas.List.{length-take, drop_all, drop-drop}
 use Rattle.formula.specs.Boolean.{Clause, words, words_of}
 use Rattle.mapping.proofs.Moving.{length_flat, flat_append}
 use Rattle.mapping.specs.Memory.{ended, flat, over}
@@ -53,6 +53,31 @@ writing_clause before memory part n long k c rest all m h written w =
     e.1 ∙ ap (λ ws. over ws (take (long - n) (drop n memory))) (sym (append-nil (ended c))) in
     let count : words_of (c ∷ []) ≡ k = omega (arith, e.0) in
     subst (λ i. Writing before (put_mid n (long - n) memory part) (n + i) rest all) count (writing_part before memory part n long (c ∷ []) rest all m h whole w)
+
+-- the words that are left have room for the next clause
+pub writing_next : (before memory : List ℤ) (n : ℕ) (c : Clause) (rest all : List Clause) → words_of all ≤ length before → Writing before memory n (c ∷ rest) all →
+    n + words c ≤ length memory
+writing_next before memory n c rest all h w = let sum = w.words in let l = w.long in omega (arith, length_flat all, length_flat (c ∷ rest))
+
+-- a clause written into just so many of them, which were lent
+pub writing_fit : (before memory part : List ℤ) (n end k : ℕ) (c : Clause) (rest all : List Clause) → end ≡ n + words c → words_of all ≤ length before →
+    ClauseWritten c (take (end - n) (drop n memory)) k part → Writing before memory n (c ∷ rest) all →
+    Writing before (put_mid n (end - n) memory part) (n + k) rest all
+writing_fit before memory part n end k c rest all at h written w =
+    let lent = take (end - n) (drop n memory) in
+    let room = writing_next before memory n c rest all h w in
+    let long : length lent ≡ words c = simp (length-take, length-drop) (omega arith) in
+    let ends : length (ended c) ≡ words c = length-append c (pos 0 ∷ []) in
+    let e = written (omega arith) in
+    let same : part ≡ ended c =
+    e.1 ∙ (ap (λ ws. ended c ++ ws) (drop_all (length (ended c)) lent (omega arith)) ∙ append-nil (ended c)) in
+    let back : drop (end - n) (drop n memory) ≡ drop (n + length (ended c)) memory =
+    drop-drop (end - n) n memory ∙ ap (λ i. drop i memory) (omega arith) in
+    let count : length (ended c) ≡ k = ends ∙ sym e.0 in
+    let l = w.long in
+    subst (λ i. Writing before (put_mid n (end - n) memory part) (n + i) rest all) count
+    (appending_many before memory (put_mid n (end - n) memory part) 0 n (ended c) (flat rest) (flat all) (omega arith)
+    (ap₂ (λ a b. take n memory ++ (a ++ b)) same back) w)
 
 -- where all of the clauses fit, the words so far do
 pub writing_room : (before memory : List ℤ) (n : ℕ) (rest all : List Clause) → words_of all ≤ length before → Writing before memory n rest all →

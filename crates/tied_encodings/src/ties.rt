@@ -25,7 +25,8 @@ impl Tie<'_> {
         let mut count = 0;
         // kept: tried as a fold; that its closure may be called at each turn stayed open (`fold-requires-clause-callable`).
         for other in self.others {
-            count += write_clause(&[-self.literal, *other], &mut memory[count..]);
+            // Each has three words, its end among them.
+            count += write_clause(&[-self.literal, *other], &mut memory[count..count + 3]);
         }
         count
     }

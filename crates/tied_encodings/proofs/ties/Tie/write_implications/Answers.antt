@@ -4,8 +4,16 @@ use Rattle.std.proofs.lemmas.Bool.{and_parts}
 use Rattle.formula.proofs.Tests.{every_at}
 use Rattle.formula.specs.Boolean.{local, words_of}
 use Rattle.encodings.proofs.Writing.{writing_room}
-use Rattle.tied_encodings.proofs.TieWords.{as_word, turned_word, implications, implications_words, implications_more, implications_all}
+use Rattle.tied_encodings.proofs.TieWords.{as_word, turned_word, implications, implications_words, implications_room, implications_more, implications_all}
 use Rattle.tied_encodings.proofs.ties.Tie.write_implications.Goals as goal
+
+pub slice_bounds-write_clause-end-in-loop-other : goal.slice_bounds-write_clause-end-in-loop-other
+slice_bounds-write_clause-end-in-loop-other c =
+    let x = c.args.self.now.literal in
+    let ls = c.args.self.now.others.now in
+    let room = implications_room c.args.memory.now c.loop-other.memory _ c.loop-other.other-index x ls c.loop-other-test.true
+    (omega (arith, implications_words x ls)) c.loop-other.invariant.1 in
+    omega arith
 
 pub loop-other-preserved : goal.loop-other-preserved
 loop-other-preserved c =
