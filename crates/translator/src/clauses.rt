@@ -28,7 +28,8 @@ pub fn file_clause<M: Mapping, S: Store>(
 {
     let literals = &literals[..CLAUSE_LITERALS.min(literals.len())];
     let layout = Layout { mapping, places };
-    let forms = layout.forms(literals);
+    let mut forms = ArrayVec::new();
+    layout.load_forms(literals, &mut forms);
     let product = forms.as_slice();
     check_room(store, layout.reach(literals), count_words(product))?;
     put_product(store, product, &mut ArrayVec::new())

@@ -48,7 +48,7 @@ pub(crate) fn put_product<S: Store>(
             for choice in literals {
                 front.push(shift(*choice, first.start));
                 put_product(store, rest, front)?;
-                front.truncate(used);
+                front.pop();
             }
         }
         Kind::AnyOf => {
