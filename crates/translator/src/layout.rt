@@ -33,11 +33,12 @@ impl<M: Mapping> Layout<'_, M> {
         ensures { form_in result ≡ form_at M.Mapping.meaning self.now.places.now literal.now }
     {
         let place = self.place(literal.variable);
-        let form = HeldForm::ask(self.mapping, place.size, literal.sign, literal.value);
+        let HeldForm { kind, literals } =
+            HeldForm::ask(self.mapping, place.size, literal.sign, literal.value);
         PlacedForm {
-            kind: form.kind,
-            literals: form.literals,
+            literals,
             start: place.start,
+            kind,
         }
     }
 
