@@ -33,8 +33,12 @@ impl<M: Mapping> Layout<'_, M> {
         ensures { form_in result ≡ form_at M.Mapping.meaning self.now.places.now literal.now }
     {
         let place = self.place(literal.variable);
-        let HeldForm { kind, literals } =
-            HeldForm::ask(self.mapping, place.size, literal.sign, literal.value);
+        let HeldForm { kind, literals } = HeldForm::ask(
+            self.mapping,
+            place.size,
+            literal.sign,
+            literal.value,
+        );
         PlacedForm {
             literals,
             start: place.start,
