@@ -11,7 +11,7 @@ use crate::faults::LineFault;
 use formula::Refusal;
 use parser::Line;
 use rows::Answer;
-use std::alloc::AllocError;
+use std::alloc::{AllocError, Global};
 use std::slice::Iter;
 
 // What becomes of a line, which takes the next of the answers where it makes a call.
@@ -32,49 +32,31 @@ pub(crate) fn print_refusal(out: &mut String, line: u64, fault: LineFault) -> Re
     writeln!(out, "c refused {line} {refusal}")
 }
 
-// Prints a refused line behind what is printed already, by way of a text that serves for each line.
-fn append_refusal(
-    out: &mut Vec<u8>,
-    text: &mut String,
-    line: u64,
-    fault: LineFault,
-) -> Result<(), AllocError>
-    ensures { OnOk result (out.new.items ≡ out.old.items ++ refused_line line (refusal_of fault)) }
-{
-    text.clear();
-    print_refusal(text, line, fault)?;
-    out.extend_from_slice(text.as_bytes())
-}
-
 // Prints the lines that are refused, from line 2 on.
-// kept: what is printed grows by whole lines; one `String` for all of it was tried, but grows from its first ten bytes, which can take half as much memory again.
+// kept: what is printed grows by whole lines, each written into one text that is cleared from line to line; one `String` for all was tried, but grows from its first ten bytes, which takes up to half as much memory again.
 pub(crate) fn print_refusals(
+    heap: Global,
     out: &mut Vec<u8>,
-    text: &mut String,
     lines: &[Option<Line>],
     answers: &[Answer],
 ) -> Result<(), AllocError>
     ensures { OnOk result (out.new.items ≡ out.old.items ++ refused_lines 2 (map (option_map said_of) lines.now) answers.now) }
 {
     let mut answers = answers.iter();
+    let mut text = String::new(heap);
     for (line, number) in lines.iter().zip(2u64..) {
         if let Err(fault) = find_outcome(line, &mut answers) {
-            append_refusal(out, text, number, fault)?;
+            text.clear();
+            print_refusal(&mut text, number, fault)?;
+            out.extend_from_slice(text.as_bytes())?;
         }
     }
     Ok(())
 }
 
 // Prints the line before the clauses.
-pub(crate) fn print_header(
-    out: &mut Vec<u8>,
-    text: &mut String,
-    booleans: u32,
-    clauses: u64,
-) -> Result<(), AllocError>
-    ensures { OnOk result (out.new.items ≡ out.old.items ++ header booleans clauses) }
+pub(crate) fn print_header(out: &mut String, booleans: u32, clauses: u64) -> Result<(), AllocError>
+    ensures { OnOk result (string_bytes out.new ≡ string_bytes out.old ++ header booleans clauses) }
 {
-    text.clear();
-    writeln!(text, "p cnf {booleans} {clauses}")?;
-    out.extend_from_slice(text.as_bytes())
+    writeln!(out, "p cnf {booleans} {clauses}")
 }

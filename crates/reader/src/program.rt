@@ -42,9 +42,10 @@ fn print_row<M: Mapping + Drop>(
         sheet: _,
     } = workbook.finish();
     let mut out = Vec::new(heap);
+    print_refusals(heap, &mut out, lines, answers)?;
     let mut text = String::new(heap);
-    print_refusals(&mut out, &mut text, lines, answers)?;
-    print_header(&mut out, &mut text, booleans, clauses)?;
+    print_header(&mut text, booleans, clauses)?;
+    out.extend_from_slice(text.as_bytes())?;
     out.extend_from_slice(store.held())?;
     Ok(out)
 }
