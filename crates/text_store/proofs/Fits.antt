@@ -1,5 +1,6 @@
 -- The first literal that does not fit, and what a store answers to it. Assumes nothing.
-use Rattle.std.proofs.Common.{◌≡◌, ℕ, ◌≤◌, Bool, true, false, cond, not, leb, [], ◌∷◌, ℤ, pos, negsuc, nat_abs, Some, None, Option, Ok, Err, sym, refl, ap, ◌∙◌, ⊎_elim, arith, ◌<◌, ◌⊎◌, inl, inr}
+use Rattle.std.proofs.Common.{◌≡◌, ℕ, ◌≤◌, Bool, true, false, cond, not, leb, [], ◌∷◌, ℤ, pos, negsuc, nat_abs, Some, None, Option, Ok, Err, sym, refl, ap, ◌∙◌, ⊎_elim, arith, ◌<◌, ◌⊎◌, inl, inr, ◌+◌, List, length, get_or, drop, add-one, drop-cons}
+use Rattle.std.proofs.Math.ListN.{drop_of_length-le}
 use Rattle.std.specs.List.{find}
 use Rattle.std.specs.Option.{option_map}
 use Rattle.std.proofs.lemmas.Bool.{and_from, leb-true, cond-true, cond-false, cases_Bool, and_left, and_right, le-leb, lt-leb}
@@ -12,6 +13,17 @@ use Rattle.text_store.specs.ByteStores.{numbers_answer}
 pub number_is : (l : ℤ) → number l ≡ nat_abs l
 number_is (pos n) = refl
 number_is (negsuc n) = refl
+
+-- a search that has come to a place
+module _ {X : Type 0} (p : X → Bool) (xs : List X) (i : ℕ) where
+  pub find_here : (d : X) → i < length xs → p (get_or xs i d) ≡ true → find p (drop i xs) ≡ Some (get_or xs i d)
+  find_here d h t = ap (find p) (drop-cons xs i d h) ∙ cond-true (p (get_or xs i d)) _ _ t
+
+  pub find_next : (d : X) → i < length xs → p (get_or xs i d) ≡ false → find p (drop (i + 1) xs) ≡ find p (drop i xs)
+  find_next d h f = ap (λ n. find p (drop n xs)) (add-one i) ∙ sym (ap (find p) (drop-cons xs i d h) ∙ cond-false (p (get_or xs i d)) _ _ f)
+
+  pub find_ended : length xs ≤ i → find p (drop i xs) ≡ None
+  find_ended h = ap (find p) (drop_of_length-le xs h)
 
 module _ (largest : ℕ) where
   pub fits_from : (l : ℤ) → 1 ≤ nat_abs l → nat_abs l ≤ largest → fits largest l ≡ true
