@@ -1,5 +1,5 @@
 -- The literals and the shape of the two forms that a list of literals stands for.
-use Rattle.std.proofs.Common.{◌≡◌, ℕ, true, cond, ◌&&◌, List, [], ◌∷◌, map, length, ℤ, sym, refl, ap, ◌∙◌}
+use Rattle.std.proofs.Common.{◌≡◌, ℕ, true, cond, List, [], ◌∷◌, map, length, ℤ, sym, refl, ap, ◌∙◌}
 use Rattle.std.proofs.lemmas.Bool.{and_from}
 use Rattle.formula.specs.declared.signed.Sign.{Sign}
 use Rattle.formula.specs.declared.signed.Sign.TheVariants.{Plus, Minus}

@@ -36,23 +36,9 @@ writing_part before memory part n long cs rest all m h e w =
     (omega (arith, length_flat all, length-append (flat cs) (flat rest))) (written_part memory part n long (flat cs) m e)
     (subst (λ ws. Appending before memory 0 n ws (flat all)) (flat_append cs rest) w))
 
--- a clause written into that part, where it has room
+-- a clause written into a part that was lent, where it has room
 abbrev pub ClauseWritten : Clause → List ℤ → ℕ → List ℤ → Type 0
 ClauseWritten c lent k part = length c < length lent → (k ≡ words c) × (part ≡ over (ended c) lent)
-
-pub writing_clause : (before memory part : List ℤ) (n long k : ℕ) (c : Clause) (rest all : List Clause) → long ≡ length memory → words_of all ≤ length before →
-    ClauseWritten c (take (long - n) (drop n memory)) k part → Writing before memory n (c ∷ rest) all →
-    Writing before (put_mid n (long - n) memory part) (n + k) rest all
-writing_clause before memory part n long k c rest all m h written w =
-    let sum = w.words in
-    let l = w.long in
-    let room : length c < length (take (long - n) (drop n memory)) =
-    simp (length-take, length-drop) (omega (arith, length_flat all, length_flat (c ∷ rest))) in
-    let e = written room in
-    let whole : part ≡ over (flat (c ∷ [])) (take (long - n) (drop n memory)) =
-    e.1 ∙ ap (λ ws. over ws (take (long - n) (drop n memory))) (sym (append-nil (ended c))) in
-    let count : words_of (c ∷ []) ≡ k = omega (arith, e.0) in
-    subst (λ i. Writing before (put_mid n (long - n) memory part) (n + i) rest all) count (writing_part before memory part n long (c ∷ []) rest all m h whole w)
 
 -- the words that are left have room for the next clause
 pub writing_next : (before memory : List ℤ) (n : ℕ) (c : Clause) (rest all : List Clause) → words_of all ≤ length before → Writing before memory n (c ∷ rest) all →

@@ -1,5 +1,5 @@
 -- The literals are written one by one, and the 0 behind them.
-use Rattle.std.proofs.Common.{◌≡◌, get_or, pos, refl, w32, SFits, rules}
+use Rattle.std.proofs.Common.{get_or, pos, refl, w32, SFits, rules}
 use Rattle.std.proofs.lemmas.Int.{to_z-of_z}
 use Rattle.encodings.proofs.Appending.{ended_more, ended_all}
 use Rattle.encodings.proofs.clauses.write_clause.Goals as goal
