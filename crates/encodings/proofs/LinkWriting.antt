@@ -7,7 +7,7 @@ use Rattle.formula.specs.Boolean.{Clause}
 use Rattle.mapping.specs.Memory.{flat, over}
 use Rattle.encodings.specs.FullRegular.{at_least, less_than, link, links}
 use Rattle.encodings.specs.Runs.{numbers_more, numbers_none}
-use Rattle.encodings.proofs.Writing.{Writing, ClauseWritten, writing_clause, writing_all, writing_pair, writing_next, writing_fit}
+use Rattle.encodings.proofs.Writing.{Writing, ClauseWritten, writing_all, writing_pair, writing_next, writing_fit}
 
 -- the links from j on
 abbrev pub links_left : ℕ → ℕ → List Clause

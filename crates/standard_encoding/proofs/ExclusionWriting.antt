@@ -11,7 +11,7 @@ use Rattle.encodings.specs.Standard.{not_both, exclusions}
 use Rattle.encodings.specs.Values.{value_literal}
 use Rattle.encodings.proofs.Exclusions.{excluded, exclusions_are}
 use Rattle.encodings.specs.Runs.{numbers_more, numbers_none, words_numbers}
-use Rattle.encodings.proofs.Writing.{Writing, ClauseWritten, writing_none, writing_clause, writing_room, writing_all, writing_part, writing_pair, writing_next, writing_fit}
+use Rattle.encodings.proofs.Writing.{Writing, ClauseWritten, writing_none, writing_room, writing_all, writing_part, writing_pair, writing_next, writing_fit}
 
 -- the exclusions of value v and each that follows it, and those of them that are left from value j on
 abbrev pub pairs_of : ℕ → ℕ → List Clause
