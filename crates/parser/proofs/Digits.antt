@@ -6,7 +6,7 @@ use Rattle.std.specs.List.{list_all}
 use Rattle.parser.specs.Fields.{is_digit, spelled, number_of}
 
 -- a digit is a byte of at most 57
-digit_high : (b : ℕ) → is_digit b ≡ true → b ≤ 57
+pub digit_high : (b : ℕ) → is_digit b ≡ true → b ≤ 57
 digit_high b d = leb-true b 57 (and_parts (leb 48 b) (leb b 57) d).1
 
 module _ (bs : List ℕ) where
