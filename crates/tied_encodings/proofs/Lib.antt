@@ -1,4 +1,5 @@
 pub mod Fronts
 pub mod OneBit
+pub mod Small
 pub mod TieWords
 pub mod ValueTies

@@ -3,6 +3,7 @@
 
 mod half_tied;
 mod inner;
+mod moves;
 mod names;
 mod tied;
 mod ties;
