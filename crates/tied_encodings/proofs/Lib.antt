@@ -1,6 +1,6 @@
 pub mod Fronts
-pub mod Moves
 pub mod OneBit
+pub mod Small
 pub mod TieWords
 pub mod TieWriting
 pub mod ValueTies

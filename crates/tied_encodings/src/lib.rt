@@ -5,6 +5,7 @@ pub mod half_regular;
 mod half_tied;
 mod inner;
 pub mod logarithmic;
+mod moves;
 mod names;
 pub mod regular;
 mod tied;
