@@ -17,6 +17,7 @@ pub(crate) struct Tie<'a> {
     pub(crate) ghost narrow: { every (local 127) (literal ∷ others.now) ≡ true },
 }
 
+// kept: inlined always: where the number of literals is known the turns that find none go; as calls they take twice the time.
 impl Tie<'_> {
     // Writes the literal's clause with each of the others, which it brings, at the front of memory, and answers the words.
     #[inline(always)]
@@ -47,6 +48,7 @@ impl Tie<'_> {
         let end = self.others.len() + 1;
         memory[0] = self.literal;
         // kept: the index; to copy the others first, and turn the copies in place, is a step more and no plainer.
+        // Over all places here too.
         for place in 0..FORM_LITERALS {
             if let Some(other) = self.others.get(place) {
                 memory[place + 1] = -*other;
