@@ -24,11 +24,12 @@ fn read_digit(byte: u8) -> Option<u32>
 pub(crate) fn read_number(field: &[u8]) -> Option<u32>
     ensures { result ≡ number_of field.now }
 {
-    if field.is_empty() || field.len() > MOST_DIGITS {
+    if field.len() > MOST_DIGITS {
         return None;
     }
-    let mut number = 0;
-    for byte in field {
+    let (first, rest) = field.split_first()?;
+    let mut number = read_digit(*first)?;
+    for byte in rest {
         number = number * 10 + read_digit(*byte)?;
     }
     Some(number)
