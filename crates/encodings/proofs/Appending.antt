@@ -1,7 +1,7 @@
 -- Words written one by one, or part by part, from a place of memory on.
-use Rattle.std.proofs.Common.{◌≡◌, ℕ, suc, ◌+◌, ◌-◌, ◌<◌, ◌≤◌, List, [], ◌∷◌, ◌++◌, length, get_or, take, drop, set, ℤ, pos, sym, refl, ap, ◌∙◌, ap₂, append_assoc, arith, length-append, length-drop}
+use Rattle.std.proofs.Common.{◌≡◌, ℕ, suc, ◌+◌, ◌-◌, ◌<◌, ◌≤◌, List, [], ◌∷◌, ◌++◌, length, get_or, take, drop, set, ℤ, pos, sym, refl, ap, ◌∙◌, ap₂, append_assoc, arith, length-append, length-drop, subst}
 use borrow.Rule.Slice.PartMut.{put_mid}
-use Rattle.std.proofs.lemmas.List.{take_more_set, drop-set-lt, take-append-drop, length-set, length-take, take_rest, take_at, drop_all, drop_at, drop-drop, append-nil}
+use Rattle.std.proofs.lemmas.List.{take_more_set, drop-set-lt, take-append-drop, length-set, length-take, length-take-le, take_more, take_rest, take_at, drop_all, drop_at, drop_more, drop-drop, append-nil}
 use Rattle.std.proofs.Math.Seq.{drop-cons, set-append_seam}
 use Rattle.mapping.specs.Memory.{ended, over, written}
 
@@ -13,7 +13,7 @@ written_more memory n w ws h =
     ap₂ (λ a b. a ++ (ws ++ b)) (take_more_set memory n w h) (drop-set-lt (n + 1 + length ws) memory n w (omega arith) ∙ ap (λ k. drop k memory) e) ∙
     append_assoc (take n memory) (w ∷ []) (ws ++ drop (n + suc (length ws)) memory)
 
-written_none : (memory : List ℤ) (n : ℕ) → written memory n [] ≡ memory
+pub written_none : (memory : List ℤ) (n : ℕ) → written memory n [] ≡ memory
 written_none memory n = let e : n + 0 ≡ n = omega arith in ap (λ k. take n memory ++ drop k memory) e ∙ take-append-drop n memory
 
 -- words at the front
@@ -81,6 +81,18 @@ appending_one before memory start n x rest all h w = record {
   long = length-set memory n x ∙ w.long;
 }
 
+-- three words set, one behind the other
+pub appending_three : (before memory : List ℤ) (start n : ℕ) (x y z : ℤ) (rest all : List ℤ) → n + 3 ≤ length before →
+    Appending before memory start n (x ∷ y ∷ z ∷ rest) all → Appending before (set (set (set memory n x) (n + 1) y) (n + 2) z) start (n + 3) rest all
+appending_three before memory start n x y z rest all h w =
+    let two : n + 1 + 1 ≡ n + 2 = omega arith in
+    let three : n + 2 + 1 ≡ n + 3 = omega arith in
+    let one = appending_one before memory start n x (y ∷ z ∷ rest) all (omega arith) w in
+    let next = appending_one before (set memory n x) start (n + 1) y (z ∷ rest) all (omega arith) one in
+    subst (λ k. Appending before (set (set (set memory n x) (n + 1) y) (n + 2) z) start k rest all) three
+    (appending_one before (set (set memory n x) (n + 1) y) start (n + 2) z rest all (omega arith)
+    (subst (λ k. Appending before (set (set memory n x) (n + 1) y) start k (z ∷ rest) all) two next))
+
 -- several words at once
 pub appending_many : (before memory next : List ℤ) (start n : ℕ) (xs rest all : List ℤ) → n + length xs ≤ length before → next ≡ written memory n xs →
     Appending before memory start n (xs ++ rest) all → Appending before next start (n + length xs) rest all
@@ -91,6 +103,37 @@ appending_many before memory next start n xs rest all h e w =
       words = let k = w.words in omega (arith, length-append xs rest);
       long = ap length e ∙ (length_written memory n xs (omega arith) ∙ l);
     }
+
+-- words written over those at the front, one by one
+pub over_more : (xs ys memory : List ℤ) (i : ℕ) (x : ℤ) → i < length xs → i < length memory → x ≡ get_or xs i (pos 0) → ys ≡ over (take i xs) memory →
+    set ys i x ≡ over (take (i + 1) xs) memory
+over_more xs ys memory i x h k e inv =
+    let front : length (take i xs) ≡ i = length-take-le i xs (omega arith) in
+    let next : suc i ≡ length (take (i + 1) xs) = omega (arith, length-take-le (i + 1) xs (omega arith)) in
+    let so_far : ys ≡ take i xs ++ get_or memory i (pos 0) ∷ drop (suc i) memory =
+    inv ∙ (ap (λ n. take i xs ++ drop n memory) front ∙ ap (λ zs. take i xs ++ zs) (drop-cons memory i (pos 0) k)) in
+    ap₂ (λ zs n. set zs n x) so_far (sym front) ∙
+    (set-append_seam (take i xs) (get_or memory i (pos 0)) (drop (suc i) memory) x ∙
+    (ap (λ y. take i xs ++ y ∷ drop (suc i) memory) e ∙
+    (sym (append_assoc (take i xs) (get_or xs i (pos 0) ∷ []) (drop (suc i) memory)) ∙
+    ap₂ (λ zs n. zs ++ drop n memory) (sym (take_more xs i (pos 0) h)) next)))
+
+-- the words of a clause, literal by literal, and a 0 behind them
+pub ended_more : (before memory : List ℤ) (i : ℕ) (x : ℤ) (ls : List ℤ) → length ls < length before → i < length ls → x ≡ get_or ls i (pos 0) →
+    Appending before memory 0 i (ended (drop i ls)) (ended ls) → Appending before (set memory i x) 0 (i + 1) (ended (drop (i + 1) ls)) (ended ls)
+ended_more before memory i x ls room h e w =
+    appending_one before memory 0 i x (ended (drop (i + 1) ls)) (ended ls) (omega arith)
+    (subst (λ ws. Appending before memory 0 i ws (ended ls)) (ap ended (drop_more ls i (pos 0) h) ∙ ap (λ y. y ∷ ended (drop (i + 1) ls)) (sym e)) w)
+
+pub ended_all : (before memory : List ℤ) (i : ℕ) (ls : List ℤ) → length ls < length before → length ls ≤ i →
+    Appending before memory 0 i (ended (drop i ls)) (ended ls) → set memory (length ls) (pos 0) ≡ over (ended ls) before
+ended_all before memory i ls room h w =
+    let count = w.words in
+    let none : length (ended (drop i ls)) ≡ 1 = ap (λ ks. length (ended ks)) (drop_all i ls h) in
+    let place : length ls ≡ i = omega (arith, length-append ls (pos 0 ∷ [])) in
+    let last = appending_one before memory 0 i (pos 0) [] (ended ls) (omega arith)
+    (subst (λ ks. Appending before memory 0 i (ended ks) (ended ls)) (drop_all i ls h) w) in
+    ap (λ k. set memory k (pos 0)) place ∙ ((appending_all before (set memory i (pos 0)) 0 (i + 1) (ended ls) last).1 ∙ written_start before (ended ls))
 
 -- words at the front, and a 0 behind them
 pub ended_over : (xs part memory : List ℤ) → part ≡ xs → length xs < length memory →

@@ -119,3 +119,15 @@ module _ (m : ℕ) (s : is_size m ≡ true) where
   -- a digit weighs at most 32
   pub weight_few : (k i : ℕ) → k ≡ digits m → i < k → 2 ^ i ≤ 32
   weight_few k i e h = let few = digits_few in power_grows i 5 (omega arith)
+
+-- numbers of 32 bits have at most 32 digits, and fewer than 2^32 patterns to spare
+pub digits_most : (m : ℕ) → m < 2 ^ 32 → digits m ≤ 32
+digits_most m h = digits_reached m 32 (omega arith)
+
+pub spare_below : (m k p : ℕ) → p ≡ 2 ^ k → k ≤ digits m → m < 2 ^ 32 → p - m < 2 ^ 32
+spare_below zero k p e h small =
+    let none = digits_reached 0 0 (omega arith) in
+    let grows = power_grows k 0 (omega arith) in omega arith
+spare_below (suc m) k p e h small =
+    let most = digits_most (suc m) small in
+    let grows = power_grows k 32 (omega arith) in omega arith

@@ -9,6 +9,7 @@ pub mod Known
 pub mod LinkWriting
 pub mod LogarithmicLaws
 pub mod Mapped
+pub mod Members
 pub mod Outside
 pub mod PatternCounts
 pub mod Patterns

@@ -11,6 +11,11 @@ abbrev pub form_by : List ℤ → Sign → Form
 form_by ls Plus = all_of ls
 form_by ls Minus = any_of (map opposite ls)
 
+-- a literal for a plus, its opposite for a minus
+abbrev pub signed_literal : Sign → ℤ → ℤ
+signed_literal Plus l = l
+signed_literal Minus l = opposite l
+
 -- the same of a list for each value of each size, and any of nothing out of range
 abbrev pub listed_form : (ℕ → ℕ → List ℤ) → ℕ → Sign → ℕ → Form
 listed_form list m s i = cond (is_size m && is_value m i) (form_by (list m i) s) (any_of [])

@@ -12,7 +12,9 @@ pub fn write_clause(literals: &[i32], memory: &mut [i32]) -> usize
     if count >= memory.len() {
         return 0;
     }
-    memory[..count].copy_from_slice(literals);
+    for (place, literal) in literals.iter().enumerate() {
+        memory[place] = *literal;
+    }
     memory[count] = 0;
     count + 1
 }

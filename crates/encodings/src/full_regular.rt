@@ -38,10 +38,12 @@ impl Listed for FullRegular {
     fn literals(&self, choice: Choice) -> ArrayVec<i32, FORM_LITERALS> {
         let Choice { size, value } = choice;
         let mut bounds = ArrayVec::new();
-        if value > 1 {
+        if value == 1 {
+            bounds.push(less_than(2));
+        } else if value == size {
+            bounds.push(at_least(size));
+        } else {
             bounds.push(at_least(value));
-        }
-        if value < size {
             bounds.push(less_than(value + 1));
         }
         bounds
@@ -64,7 +66,9 @@ impl Mapping for FullRegular {
         // kept: tried over chunks_exact_mut(3), after which nothing is known of the words (`returns-clause-memory` stayed open).
         let mut count = 0;
         for j in 2..size.count {
-            count += write_clause(&[less_than(j + 1), at_least(j)], &mut memory[count..]);
+            // A link has three words, its end among them.
+            let room = &mut memory[count..count + 3];
+            count += write_clause(&[less_than(j + 1), at_least(j)], room);
         }
         count
     }

@@ -1,11 +1,11 @@
 // Forms by a list of literals for each value.
-ghost use Rattle.std.specs.Prelude.{◌≡◌, ℕ, true, List, ℤ, map};
-ghost use Rattle.formula.specs.Boolean.{local, opposite};
+ghost use Rattle.std.specs.Prelude.{◌≡◌, ℕ, true, List, ℤ};
+ghost use Rattle.formula.specs.Boolean.{local};
 ghost use Rattle.formula.specs.Tests.{every};
 ghost use Rattle.mapping.specs.Forms.{members, shape_of};
 ghost use Rattle.mapping.specs.Meanings.{is_size, is_value};
 ghost use Rattle.mapping.specs.Memory.{over};
-ghost use Rattle.encodings.specs.ListedForms.{listed_form};
+ghost use Rattle.encodings.specs.ListedForms.{listed_form, signed_literal};
 
 use arrayvec::ArrayVec;
 use formula::Sign;
@@ -23,13 +23,14 @@ pub trait Listed {
     ghost narrow: { (m i : ℕ) → is_size m ≡ true → is_value m i ≡ true → every (local 127) (list m i) ≡ true };
 }
 
-// Turns each literal into its opposite.
-fn turn(literals: &mut [i32])
-    requires { every (local 127) literals.old ≡ true }
-    ensures { literals.new ≡ map opposite literals.old }
+// A literal, or its opposite for a minus.
+fn signed(sign: Sign, literal: i32) -> i32
+    requires { local 127 literal ≡ true }
+    ensures { result ≡ signed_literal sign literal }
 {
-    for literal in literals.iter_mut() {
-        *literal = -*literal;
+    match sign {
+        Sign::Plus => literal,
+        Sign::Minus => -literal,
     }
 }
 
@@ -52,13 +53,14 @@ pub fn write_form<L: Listed>(
         };
     };
     let literals = lists.literals(choice);
-    let count = literals.len();
-    places[..count].copy_from_slice(literals.as_slice());
-    if sign == Sign::Minus {
-        turn(&mut places[..count]);
+    // kept: over all places, so as many turns at each call, which need no loop; over the literals alone, or as a copy, it takes twice the time.
+    for place in 0..FORM_LITERALS {
+        if let Some(literal) = literals.as_slice().get(place) {
+            places[place] = signed(sign, *literal);
+        }
     }
     Shape {
         kind: Kind::from(sign),
-        count,
+        count: literals.len(),
     }
 }

@@ -1,6 +1,6 @@
 -- What the laws give at every size and value, out of range too. Assumes nothing.
-use Rattle.std.proofs.Common.{◌≡◌, ℕ, ◌≤◌, Bool, true, cond, ◌&&◌, List, [], sym, refl, subst, ⊎_elim, arith}
-use Rattle.std.proofs.lemmas.Bool.{cases_Bool, and_parts}
+use Rattle.std.proofs.Common.{◌≡◌, ℕ, ◌≤◌, Bool, true, cond, ◌&&◌, List, [], sym, refl, subst, ⊎_elim, arith, false, length}
+use Rattle.std.proofs.lemmas.Bool.{cases_Bool, and_parts, both_ways}
 use Rattle.formula.specs.Boolean.{Clause, local, words_of}
 use Rattle.formula.specs.Tests.{every}
 use Rattle.formula.specs.declared.signed.Sign.{Sign}
@@ -33,5 +33,12 @@ module _ (M : Meaning) (lawful : Lawful M) where
       (subst (λ (b : Bool). P (cond b (M.form m s i) (any_of []))) (sym not_both) outside))
       (cases_Bool (is_size m && is_value m i))
 
+  pub forms_few : (m : ℕ) (s : Sign) (i : ℕ) → length (members (M.form m s i)) ≤ 8
+  forms_few m s i = by_value (λ f. length (members f) ≤ 8) (omega arith) m s i (λ h k. (lawful.at_size m h).form_most s i k)
+
   pub forms_own : (m : ℕ) (s : Sign) (i : ℕ) → every (local (M.width m)) (members (M.form m s i)) ≡ true
   forms_own m s i = by_value (λ f. every (local (M.width m)) (members f) ≡ true) refl m s i (λ h k. (lawful.at_size m h).form_local s i k)
+
+  -- a size out of range has no forms
+  pub no_form : (m : ℕ) (s : Sign) (i : ℕ) → is_size m ≡ false → members (M.form m s i) ≡ []
+  no_form m s i no_size = by_value (λ f. members f ≡ []) refl m s i (λ h k. absurd (both_ways (is_size m) no_size h))

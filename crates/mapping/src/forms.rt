@@ -21,8 +21,13 @@ impl HeldForm {
     {
         let mut places = [0; FORM_LITERALS];
         let shape = mapping.form(size, sign, value, &mut places);
-        let mut literals = ArrayVec::from(places);
-        literals.truncate(shape.count);
+        // kept: over all places, so as many turns at each call, which need no loop; what is cut off an ArrayVec is written over.
+        let mut literals = ArrayVec::new();
+        for (place, literal) in places.iter().enumerate() {
+            if place < shape.count {
+                literals.push(*literal);
+            }
+        }
         HeldForm {
             kind: shape.kind,
             literals,

@@ -23,20 +23,21 @@ pub struct Subject<M> {
 }
 
 // What memory has before a call, at a place.
-fn filler(place: usize) -> i32 {
+pub fn filler(place: usize) -> i32 {
     i32::try_from(place).unwrap_or(0).saturating_add(1_000_000)
 }
 
-// Memory as it is before a call.
+// Places as they are before a call.
 pub fn fillers<const N: usize>() -> [i32; N] {
     array::from_fn(filler)
 }
 
 // The memory that a mapping leaves when it is asked for axioms, and the number of words that it answers.
-// kept: a mapping writes into memory that is handed in, of a fixed size, and all of that memory is compared.
+// kept: a mapping writes into memory that is handed in, of a fixed size, and all of that memory is compared. It is lent from a box:
+// handed out by value, such arrays took a megabyte of stack.
 #[derive(Drop)]
 pub struct Axioms {
-    pub memory: [i32; AXIOM_WORDS],
+    pub memory: Box<[i32; AXIOM_WORDS]>,
     pub count: usize,
 }
 
@@ -82,10 +83,13 @@ impl<M: Mapping + Copy> Subject<M> {
 
 impl<M: Mapping> Subject<M> {
     // The words that the mapping answers and the memory that it leaves.
-    pub fn axioms(&self) -> Axioms {
-        let mut memory = fillers();
+    pub fn axioms(&self, heap: Global) -> Result<Axioms, AllocError> {
+        let mut memory = Box::new(heap, [0; AXIOM_WORDS])?;
+        for (place, word) in memory.iter_mut().enumerate() {
+            *word = filler(place);
+        }
         let count = self.mapping.axioms(self.size, &mut memory);
-        Axioms { memory, count }
+        Ok(Axioms { memory, count })
     }
 
     // The form that the mapping gives of a value with a sign.

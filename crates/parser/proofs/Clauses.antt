@@ -6,7 +6,7 @@ use Rattle.parser.specs.Cuts.{given}
 use Rattle.parser.specs.Fields.{literal_of, literals_of}
 
 -- the literals so far, and those of what is left
-abbrev on : List Literal → Option (List Literal) → Option (List Literal)
+abbrev pub on : List Literal → Option (List Literal) → Option (List Literal)
 on items o = given o (λ ls. Some (items ++ ls))
 
 on_more : (items : List Literal) (l : Literal) (o : Option (List Literal)) → on items (given o (λ ls. Some (l ∷ ls))) ≡ on (items ++ l ∷ []) o

@@ -1,4 +1,3 @@
 pub mod Digits
 pub mod Clauses
 pub mod LineByLine
-pub mod Collected

@@ -87,10 +87,13 @@ fn trim_newline(line: &[u8]) -> &[u8]
 }
 
 // The lines of a text, each with what it says, if it can be read.
+// kept: a loop that pushes; `map` and `try_collect` were tried, but extend by one line at a time, which makes a blank line take twice as long.
 pub fn read_lines(heap: Global, text: &[u8]) -> Result<Vec<Option<Line>>, AllocError>
     ensures { IfOk result (λ v. map (option_map said_of) v.items ≡ map said (lines text.now)) }
 {
-    text.split_inclusive(|byte| *byte == b'\n')
-        .map(|line| read_line(heap, trim_newline(line)))
-        .try_collect(heap)
+    let mut all = Vec::new(heap);
+    for line in text.split_inclusive(|byte| *byte == b'\n') {
+        all.push(read_line(heap, trim_newline(line))?)?;
+    }
+    Ok(all)
 }

@@ -11,7 +11,7 @@ use crate::faults::LineFault;
 use formula::Refusal;
 use parser::Line;
 use rows::Answer;
-use std::alloc::AllocError;
+use std::alloc::{AllocError, Global};
 use std::slice::Iter;
 
 // What becomes of a line, which takes the next of the answers where it makes a call.
@@ -33,17 +33,22 @@ pub(crate) fn print_refusal(out: &mut String, line: u64, fault: LineFault) -> Re
 }
 
 // Prints the lines that are refused, from line 2 on.
+// kept: what is printed grows by whole lines, each written into one text that is cleared from line to line; one `String` for all was tried, but grows from its first ten bytes, which takes up to half as much memory again.
 pub(crate) fn print_refusals(
-    out: &mut String,
+    heap: Global,
+    out: &mut Vec<u8>,
     lines: &[Option<Line>],
     answers: &[Answer],
 ) -> Result<(), AllocError>
-    ensures { OnOk result (string_bytes out.new ≡ string_bytes out.old ++ refused_lines 2 (map (option_map said_of) lines.now) answers.now) }
+    ensures { OnOk result (out.new.items ≡ out.old.items ++ refused_lines 2 (map (option_map said_of) lines.now) answers.now) }
 {
     let mut answers = answers.iter();
+    let mut text = String::new(heap);
     for (line, number) in lines.iter().zip(2u64..) {
         if let Err(fault) = find_outcome(line, &mut answers) {
-            print_refusal(out, number, fault)?;
+            text.clear();
+            print_refusal(&mut text, number, fault)?;
+            out.extend_from_slice(text.as_bytes())?;
         }
     }
     Ok(())

@@ -41,10 +41,11 @@ fn print_row<M: Mapping + Drop>(
         store,
         sheet: _,
     } = workbook.finish();
+    let mut out = Vec::new(heap);
+    print_refusals(heap, &mut out, lines, answers)?;
     let mut text = String::new(heap);
-    print_refusals(&mut text, lines, answers)?;
     print_header(&mut text, booleans, clauses)?;
-    let mut out = text.into_bytes();
+    out.extend_from_slice(text.as_bytes())?;
     out.extend_from_slice(store.held())?;
     Ok(out)
 }

@@ -23,7 +23,7 @@ pub(crate) enum Row {
 #[derive(Clone, Copy)]
 pub struct Coding {
     encoding: Encoding,
-    pub(crate) size: i64,
+    pub size: i64,
 }
 
 impl Coding {
@@ -40,13 +40,13 @@ impl Coding {
     }
 
     // The digits that it takes to count the values from 0.
-    fn digits(self) -> u32 {
+    pub fn digits(self) -> u32 {
         let last = self.size.saturating_sub(1);
         i64::BITS.saturating_sub(last.leading_zeros())
     }
 
     // The patterns of so many digits that are more than the values.
-    fn spare(self) -> i64 {
+    pub fn spare(self) -> i64 {
         2i64.saturating_pow(self.digits()).saturating_sub(self.size)
     }
 

@@ -11,8 +11,17 @@ pub enum Encoding {
     HR,
 }
 
+pub const ENCODINGS: [Encoding; 6] = [
+    Encoding::S,
+    Encoding::FL,
+    Encoding::L,
+    Encoding::FR,
+    Encoding::R,
+    Encoding::HR,
+];
+
 impl Encoding {
-    pub(crate) fn name(self) -> &'static str {
+    pub fn name(self) -> &'static str {
         match self {
             Encoding::S => "S",
             Encoding::FL => "FL",
@@ -24,17 +33,17 @@ impl Encoding {
     }
 
     // Whether there is a Boolean for each value.
-    pub(crate) fn has_values(self) -> bool {
+    pub fn has_values(self) -> bool {
         !matches!(self, Encoding::FL | Encoding::FR)
     }
 
     // Whether there are digits.
-    pub(crate) fn has_digits(self) -> bool {
+    pub fn has_digits(self) -> bool {
         matches!(self, Encoding::FL | Encoding::L)
     }
 
     // Whether there is a Boolean for each value or more.
-    pub(crate) fn has_bounds(self) -> bool {
+    pub fn has_bounds(self) -> bool {
         matches!(self, Encoding::FR | Encoding::R | Encoding::HR)
     }
 }

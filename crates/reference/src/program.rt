@@ -11,7 +11,7 @@ const LONGEST: usize = 16_384;
 const CAPACITY: usize = 3640;
 
 // The encoding that a first line names, of those that are known.
-fn read_first(line: &[u8], known: &[Encoding]) -> Option<Encoding> {
+pub fn read_first(line: &[u8], known: &[Encoding]) -> Option<Encoding> {
     let name = line.strip_prefix(b"m ")?;
     known
         .iter()

@@ -5,7 +5,7 @@ use std::alloc::{AllocError, Global};
 // A row of bits and its value.
 #[derive(Drop)]
 pub struct Code {
-    value: i64,
+    pub value: i64,
     pub bits: Vec<u8>,
 }
 

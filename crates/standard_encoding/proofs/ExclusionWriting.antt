@@ -1,5 +1,5 @@
 -- S's exclusions written into memory.
-use Rattle.std.proofs.Common.{◌≡◌, ℕ, suc, ◌+◌, ◌-◌, ◌*◌, ◌<◌, ◌≤◌, List, [], ◌∷◌, ◌++◌, map, length, take, drop, ℤ, sym, refl, ap, ◌∙◌, subst, ap₂, ⊎_elim, arith}
+use Rattle.std.proofs.Common.{◌≡◌, ℕ, suc, ◌+◌, ◌-◌, ◌*◌, ◌<◌, ◌≤◌, List, [], ◌∷◌, ◌++◌, map, length, take, drop, ℤ, sym, refl, ap, ◌∙◌, subst, ap₂, ⊎_elim, arith, set, pos}
 use borrow.Rule.Slice.PartMut.{put_mid}
 use Rattle.std.proofs.lemmas.Bool.{cases_lt}
 use Rattle.formula.proofs.Tests.{sum_append}
@@ -11,7 +11,7 @@ use Rattle.encodings.specs.Standard.{not_both, exclusions}
 use Rattle.encodings.specs.Values.{value_literal}
 use Rattle.encodings.proofs.Exclusions.{excluded, exclusions_are}
 use Rattle.encodings.specs.Runs.{numbers_more, numbers_none, words_numbers}
-use Rattle.encodings.proofs.Writing.{Writing, ClauseWritten, writing_none, writing_clause, writing_room, writing_all, writing_part}
+use Rattle.encodings.proofs.Writing.{Writing, ClauseWritten, writing_none, writing_room, writing_all, writing_part, writing_pair, writing_next, writing_fit}
 
 -- the exclusions of value v and each that follows it, and those of them that are left from value j on
 abbrev pub pairs_of : ℕ → ℕ → List Clause
@@ -38,15 +38,33 @@ pub pairs_room : (before memory : List ℤ) (n m v j : ℕ) → 3 * (m - v) ≤ 
 pairs_room before memory n m v j h w = writing_room before memory n (pairs_left m v j) (pairs_of m v) (omega (arith, pairs_words m v)) w
 
 module _ (before memory : List ℤ) (n m v j : ℕ) where
-  pub pairs_more : (part : List ℤ) (k long : ℕ) (x y : ℤ) → j ≤ m → long ≡ length memory → 3 * (m - v) ≤ length before →
-      x ≡ opposite (value_literal v) → y ≡ opposite (value_literal j) → ClauseWritten (x ∷ y ∷ []) (take (long - n) (drop n memory)) k part →
-      Writing before memory n (pairs_left m v j) (pairs_of m v) → Writing before (put_mid n (long - n) memory part) (n + k) (pairs_left m v (j + 1)) (pairs_of m v)
-  pairs_more part k long x y h l room first second is w =
+  pairs_next : j ≤ m → pairs_left m v j ≡ not_both v j ∷ pairs_left m v (j + 1)
+  pairs_next h = ap (map (not_both v)) (numbers_more j (m + 1) (omega arith))
+
+  -- there is room for the next
+  pub pair_room : j ≤ m → 3 * (m - v) ≤ length before → Writing before memory n (pairs_left m v j) (pairs_of m v) → n + 3 ≤ length memory
+  pair_room h room w =
+      writing_next before memory n (not_both v j) (pairs_left m v (j + 1)) (pairs_of m v) (omega (arith, pairs_words m v))
+      (subst (λ cs. Writing before memory n cs (pairs_of m v)) (pairs_next h) w)
+
+  pub pairs_more : (part : List ℤ) (k end : ℕ) (x y : ℤ) → j ≤ m → end ≡ n + 3 → 3 * (m - v) ≤ length before →
+      x ≡ opposite (value_literal v) → y ≡ opposite (value_literal j) → ClauseWritten (x ∷ y ∷ []) (take (end - n) (drop n memory)) k part →
+      Writing before memory n (pairs_left m v j) (pairs_of m v) → Writing before (put_mid n (end - n) memory part) (n + k) (pairs_left m v (j + 1)) (pairs_of m v)
+  pairs_more part k end x y h at room first second is w =
+      let left = pairs_left m v (j + 1) in
+      let parts : pairs_left m v j ≡ (x ∷ y ∷ []) ∷ left = pairs_next h ∙ ap₂ (λ (a b : ℤ). (a ∷ b ∷ []) ∷ left) (sym first) (sym second) in
+      writing_fit before memory part n end k (x ∷ y ∷ []) left (pairs_of m v) at (omega (arith, pairs_words m v)) is
+      (subst (λ cs. Writing before memory n cs (pairs_of m v)) parts w)
+
+  -- the same for a pair set word by word
+  pub pairs_more_set : (x y : ℤ) → j ≤ m → n + 3 ≤ length before → x ≡ opposite (value_literal v) → y ≡ opposite (value_literal j) →
+      Writing before memory n (pairs_left m v j) (pairs_of m v) →
+      Writing before (set (set (set memory n x) (n + 1) y) (n + 2) (pos 0)) (n + 3) (pairs_left m v (j + 1)) (pairs_of m v)
+  pairs_more_set x y h l first second w =
       let left = pairs_left m v (j + 1) in
       let parts : pairs_left m v j ≡ (x ∷ y ∷ []) ∷ left =
       ap (map (not_both v)) (numbers_more j (m + 1) (omega arith)) ∙ ap₂ (λ (a b : ℤ). (a ∷ b ∷ []) ∷ left) (sym first) (sym second) in
-      writing_clause before memory part n long k (x ∷ y ∷ []) left (pairs_of m v) l (omega (arith, pairs_words m v)) is
-      (subst (λ cs. Writing before memory n cs (pairs_of m v)) parts w)
+      writing_pair before memory n x y left (pairs_of m v) l (subst (λ cs. Writing before memory n cs (pairs_of m v)) parts w)
 
   pub pairs_all : m < j → Writing before memory n (pairs_left m v j) (pairs_of m v) → (n ≡ 3 * (m - v)) × (memory ≡ over (flat (pairs_of m v)) before)
   pairs_all h w =

@@ -1,6 +1,6 @@
 // The mapping that has a Boolean for each value and no other: S.
 #![tactic(auto)]
 
-mod standard;
+pub mod standard;
 
 pub use standard::Standard;

@@ -57,7 +57,8 @@ fn write_exclusions_of(choice: Choice, memory: &mut [i32]) -> usize
     // kept: tried as a fold; that its closure may be called at each turn stayed open (`fold-requires-clause-callable`).
     for later in value + 1..=size {
         let pair = [-(value as i32), -(later as i32)];
-        count += write_clause(&pair, &mut memory[count..]);
+        // An exclusion has three words, its end among them.
+        count += write_clause(&pair, &mut memory[count..count + 3]);
     }
     count
 }

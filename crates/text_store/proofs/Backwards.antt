@@ -1,61 +1,64 @@
--- The last piece of bytes that end with a mark, found from where the bytes behind the mark before it begin. Assumes nothing.
-use Rattle.std.proofs.Common.{◌≡◌, ℕ, zero, suc, ◌+◌, ◌-◌, ◌<◌, ◌≤◌, Bool, true, false, cond, not, eqb, ltb, List, [], ◌∷◌, ◌++◌, length, get_or, take, drop, sym, refl, ap, ◌∙◌, subst, inl, inr, add-one, arith, take-append-drop}
-use Rattle.std.specs.List.{count_by}
-use Rattle.std.proofs.lemmas.List.{take_at, take_more, length_push, take-append-le, drop-append-le}
-use Rattle.std.proofs.lemmas.List.Recursion.{is_count_by}
+-- A walk back over bytes that end with a mark. Assumes nothing.
+use Rattle.std.proofs.Common.{◌≡◌, ℕ, ◌+◌, ◌-◌, ◌<◌, ◌≤◌, Bool, true, false, cond, not, eqb, ltb, List, [], ◌∷◌, ◌++◌, length, get_or, take, sym, refl, ap, ◌∙◌, inl, inr, append_assoc, arith, length-append}
+use mir.Val.{bool_byte}
+use Rattle.std.proofs.lemmas.List.{take_at, take_more, length_push, length-take-le}
 use Rattle.std.proofs.lemmas.Bool.{and_from, not_from_false, ne_eqb}
+use Rattle.std.proofs.lemmas.Bool.Decides.{nat_tests}
 use Rattle.text_store.specs.Bytes.{clean, Closed, lows, PieceFrom}
 
--- the low bytes are those that a test finds
-lows_found : (bound : ℕ) (bytes : List ℕ) → lows bound bytes ≡ count_by (λ b. ltb b bound) bytes
-lows_found bound bytes = is_count_by (lows bound) (λ b. ltb b bound) refl (λ b bs. step (ltb b bound) (lows bound bs)) bytes
-  where
-    step : (found : Bool) (n : ℕ) → cond found 1 0 + n ≡ cond found (1 + n) n
-    step true n = refl
-    step false n = omega arith
+pub lows_le : (bound : ℕ) (bytes : List ℕ) → lows bound bytes ≤ length bytes
+lows_le bound [] = omega arith
+lows_le bound (b ∷ bytes) = let h = lows_le bound bytes in grind (arith, nat_tests)
 
-module _ (mark : ℕ) where
-  -- behind the last mark no byte is the mark
-  clean_behind : (bytes : List ℕ) (start : ℕ) → ((k : ℕ) → start ≤ k → k < length bytes → get_or bytes k 0 ≡ mark → ⊥) → clean mark (drop start bytes) ≡ true
-  clean_behind [] zero h = refl
-  clean_behind [] (suc start) h = refl
-  clean_behind (b ∷ bytes) zero h =
-      and_from (not (eqb mark b)) (clean mark bytes) (not_from_false (eqb mark b) (ne_eqb mark b (λ e. h 0 (omega arith) (omega arith) (sym e)))) (clean_behind bytes zero (λ k l m. h (suc k) (omega arith) (omega arith)))
-  clean_behind (b ∷ bytes) (suc start) h = clean_behind bytes start (λ k l m. h (suc k) (omega arith) (omega arith))
+-- a byte that is low counts as one
+counted : (low : Bool) (n : ℕ) → n + bool_byte low ≡ cond low 1 0 + n
+counted true n = omega arith
+counted false n = omega arith
 
-  -- before them stands the mark, or nothing
-  closed_before : (bytes : List ℕ) (start : ℕ) → start ≤ length bytes → (0 < start → get_or bytes (start - 1) 0 ≡ mark) → Closed mark (take start bytes)
-  closed_before bytes zero within h = inl refl
-  closed_before bytes (suc start) within h =
-      let back : suc start - 1 ≡ start = omega arith in
-      let more : take (suc start) bytes ≡ take start bytes ++ get_or bytes start 0 ∷ [] = ap (λ n. take n bytes) (sym (add-one start)) ∙ take_more bytes start 0 (omega arith) in
-      inr (take start bytes, more ∙ ap (λ b. take start bytes ++ b ∷ []) (rw back at (h (omega arith))))
+module _ (mark bound : ℕ) (bytes : List ℕ) where
+  -- at the end stands the mark alone
+  pub piece_none : Closed mark bytes → 0 < length bytes → (count : ℕ) → count ≡ bool_byte (ltb mark bound) → PieceFrom mark bound bytes (length bytes - 1) count
+  piece_none (inl e) some count low = let none = ap length e in absurd (omega arith)
+  piece_none (inr p) some count low =
+      let long : length p.0 ≡ length bytes - 1 = omega (arith, ap length p.1, length_push p.0 mark) in
+      record {
+        piece = [];
+        within = omega arith;
+        whole = ap (λ front. front ++ mark ∷ []) (ap (take (length bytes - 1)) p.1 ∙ take_at p.0 (mark ∷ []) (length bytes - 1) long) ∙ sym p.1;
+        unmarked = refl;
+        count_is = omega (arith, low, counted (ltb mark bound) 0);
+      }
 
-  module _ (bound : ℕ) (bytes : List ℕ) (closed : Closed mark bytes) (some : 0 < length bytes) where
-    -- all but the mark at the end
-    whole : take (length bytes - 1) bytes ++ mark ∷ [] ≡ bytes
-    whole = ends closed
-      where
-        ends : Closed mark bytes → take (length bytes - 1) bytes ++ mark ∷ [] ≡ bytes
-        ends (inl e) = let none = ap length e in absurd (omega arith)
-        ends (inr p) =
-            let long : length p.0 ≡ length bytes - 1 = omega (arith, ap length p.1, length_push p.0 mark) in
-            ap (λ front. front ++ mark ∷ []) (ap (take (length bytes - 1)) p.1 ∙ take_at p.0 (mark ∷ []) (length bytes - 1) long) ∙ sym p.1
+  module _ (start count : ℕ) (p : PieceFrom mark bound bytes start count) where
+    -- how far the count can be
+    pub piece_within : start + count ≤ length bytes
+    piece_within =
+        let few = lows_le bound (p.piece ++ mark ∷ []) in
+        omega (arith, ap length p.whole, length-append (take start bytes) (p.piece ++ mark ∷ []), length-take-le start bytes (omega arith), p.count_is)
 
-    module _ (start : ℕ) (within : start ≤ length (take (length bytes - 1) bytes)) (unmarked : (k : ℕ) → start ≤ k → k < length (take (length bytes - 1) bytes) → get_or (take (length bytes - 1) bytes) k 0 ≡ mark → ⊥) where
-      pub piece_behind : PieceFrom mark bound bytes start (count_by (λ b. ltb b bound) (drop start bytes))
-      piece_behind =
-          let front = take (length bytes - 1) bytes in
-          let behind : drop start bytes ≡ drop start front ++ mark ∷ [] = ap (drop start) (sym whole) ∙ drop-append-le start front (mark ∷ []) within in
+    module _ (some : 0 < start) where
+      back : start - 1 + 1 ≡ start
+      back = omega arith
+
+      inside : start - 1 < length bytes
+      inside = omega (arith, p.within)
+
+      -- the byte before the piece, behind those before it
+      last : take start bytes ≡ take (start - 1) bytes ++ get_or bytes (start - 1) 0 ∷ []
+      last = ap (λ n. take n bytes) (sym back) ∙ take_more bytes (start - 1) 0 inside
+
+      -- one byte more, which is not the mark
+      pub piece_more : (get_or bytes (start - 1) 0 ≡ mark → ⊥) → (low : ℕ) → low ≡ bool_byte (ltb (get_or bytes (start - 1) 0) bound) → PieceFrom mark bound bytes (start - 1) (count + low)
+      piece_more other low h =
+          let b = get_or bytes (start - 1) 0 in
           record {
-            piece = drop start front;
-            within = omega (arith, within, ap length whole, length_push front mark);
-            whole = ap (λ bs. take start bytes ++ bs) (sym behind) ∙ take-append-drop start bytes;
-            unmarked = clean_behind front start unmarked;
-            count_is = sym (lows_found bound (drop start bytes)) ∙ ap (lows bound) behind;
+            piece = b ∷ p.piece;
+            within = inside;
+            whole = sym (append_assoc (take (start - 1) bytes) (b ∷ []) (p.piece ++ mark ∷ [])) ∙ ap (λ front. front ++ (p.piece ++ mark ∷ [])) (sym last) ∙ p.whole;
+            unmarked = and_from (not (eqb mark b)) (clean mark p.piece) (not_from_false (eqb mark b) (ne_eqb mark b (λ e. other (sym e)))) p.unmarked;
+            count_is = ap (λ n. count + n) h ∙ counted (ltb b bound) count ∙ ap (λ n. cond (ltb b bound) 1 0 + n) p.count_is;
           }
 
-      pub before_behind : (0 < start → get_or (take (length bytes - 1) bytes) (start - 1) 0 ≡ mark) → Closed mark (take start bytes)
-      before_behind h =
-          let front = take (length bytes - 1) bytes in
-          subst (Closed mark) (sym (take-append-le start front (mark ∷ []) within) ∙ ap (take start) whole) (closed_before front start within h)
+      -- the mark stands before the piece
+      pub piece_first : get_or bytes (start - 1) 0 ≡ mark → Closed mark (take start bytes)
+      piece_first e = inr (take (start - 1) bytes, last ∙ ap (λ b. take (start - 1) bytes ++ b ∷ []) e)

@@ -7,7 +7,7 @@ use Rattle.formula.specs.Boolean.{Clause, words, words_of}
 use Rattle.store.specs.Stores.{after_cut, appended}
 use Rattle.text_store.specs.Bytes.{Closed, PieceFrom, at_place}
 use Rattle.text_store.specs.ByteStores.{fit_clause, byte_capacity, byte_terms, byte_contents, StandsFor}
-use Rattle.text_store.proofs.Lines.{lines, read_lines, Legible, Holds, words_long, lines_short, same_clauses, list_is, holds_read, holds_put, holds_cut}
+use Rattle.text_store.proofs.Lines.{lines, read_lines, Legible, Holds, words_long, lines_short, same_clauses, list_is, holds_read, holds_put, holds_cut, closed_lines, lines_long}
 use Rattle.text_store.proofs.Places.{length_at_place, take_at_place}
 
 -- the first bytes of the buffer are the lines of the clauses that they stand for, and the counts of them are right
@@ -21,6 +21,13 @@ module _ {line : Clause → List ℕ} {mark bound most : ℕ} {read : List ℕ �
     text = sym front.text.whole;
     only = λ ds h e. same_clauses legible ds (read_lines mark read (take held memory)) h front.text.fit_all (e ∙ sym front.text.whole);
   }
+
+  pub held_closed : Closed mark (take held memory)
+  held_closed = subst (Closed mark) front.text.whole (closed_lines line mark (read_lines mark read (take held memory)))
+
+  pub held_some : 0 < count → 0 < length (take held memory)
+  held_some some =
+      omega (arith, front.text.count_is, lines_long line mark (read_lines mark read (take held memory)), ap length front.text.whole)
 
   -- the lines end where the held bytes end
   held_is : length (lines line mark (read_lines mark read (take held memory))) ≡ held
@@ -60,7 +67,7 @@ module _ {line : Clause → List ℕ} {mark bound most : ℕ} {read : List ℕ �
         omega (arith, front.text.count_is, front.text.words_are, words_long (read_lines mark read (take held memory)))
 
     module _ (end : ℕ) (after : List ℕ) (end_is : end ≡ held + length (line c ++ mark ∷ [])) (after_is : after ≡ at_place held (line c ++ mark ∷ []) memory) where
-      put_long : length after ≡ length memory
+      pub put_long : length after ≡ length memory
       put_long = ap length after_is ∙ length_at_place held (line c ++ mark ∷ []) memory put_within
 
       longer : take end after ≡ take held memory ++ (line c ++ mark ∷ [])

@@ -1,5 +1,6 @@
 pub mod Backwards
 pub mod Cuts
+pub mod Figures
 pub mod Fits
 pub mod Fronts
 pub mod Held
@@ -8,3 +9,4 @@ pub mod Lines
 pub mod Literals
 pub mod Marks
 pub mod Places
+pub mod Rows

@@ -52,7 +52,7 @@ words_long [] = omega arith
 words_long (c ∷ cs) = let more = words_long cs in omega arith
 
 module _ {line : Clause → List ℕ} {mark bound most : ℕ} {read : List ℕ → Clause} {fit : Clause → Bool} (legible : Legible line mark bound most read fit) where
-  round_trip : (cs : List Clause) → every fit cs ≡ true → read_lines mark read (lines line mark cs) ≡ cs
+  pub round_trip : (cs : List Clause) → every fit cs ≡ true → read_lines mark read (lines line mark cs) ≡ cs
   round_trip cs h =
       let cut = pieces_joined mark line cs [] (every_weaker fit (λ c. clean mark (line c)) legible.unmarked cs h) in
       ap (map read) (ap (pieces mark) (sym (append-nil (lines line mark cs))) ∙ cut ∙ append-nil (map line cs)) ∙ map_back fit line read legible.read_back cs h

@@ -14,7 +14,7 @@ module _ (mark : ℕ) where
   itself : eqb mark mark ≡ true
   itself = eq-eqb mark mark refl
 
-  pieces_ended : (piece rest : List ℕ) → clean mark piece ≡ true → pieces mark (piece ++ mark ∷ rest) ≡ piece ∷ pieces mark rest
+  pub pieces_ended : (piece rest : List ℕ) → clean mark piece ≡ true → pieces mark (piece ++ mark ∷ rest) ≡ piece ∷ pieces mark rest
   pieces_ended [] rest h = cond-true (eqb mark mark) _ _ itself
   pieces_ended (b ∷ piece) rest h =
       let parts = and_parts (not (eqb mark b)) (clean mark piece) h in

@@ -1,11 +1,12 @@
 -- Writes at the front of a buffer and at a place. Assumes nothing.
-use Rattle.std.proofs.Common.{◌≡◌, ℕ, suc, ◌+◌, ◌-◌, ◌<◌, ◌≤◌, List, [], ◌∷◌, ◌++◌, length, take, drop, set, sym, refl, ap, ◌∙◌, append_assoc, append-nil, add-one, arith, length-drop, drop-cons}
+use Rattle.std.proofs.Common.{◌≡◌, ℕ, suc, ◌+◌, ◌-◌, ◌<◌, ◌≤◌, List, [], ◌∷◌, ◌++◌, length, take, drop, set, sym, refl, ap, ◌∙◌, append_assoc, append-nil, add-one, arith, length-drop, drop-cons, add-zero, length-append, take-append-drop}
 use borrow.Rule.Slice.PartMut.{put_mid, post_of}
 use Rattle.std.proofs.Math.ListN.{drop_of_length-le}
 use lib.Seq.{paste}
 use Rattle.std.proofs.Math.Seq.{set-append_seam}
-use Rattle.std.proofs.lemmas.List.Edits.{paste_all, take-paste, length-paste}
-use Rattle.std.proofs.lemmas.List.{length_push, drop-drop, take_all}
+use Rattle.std.proofs.lemmas.List.Edits.{paste_all, take-paste, length-paste, paste-paste}
+use Rattle.std.proofs.lemmas.List.{length_push, drop-drop, take_all, take_at}
+use Rattle.std.proofs.lemmas.Slice.{drop-append-drop}
 use Rattle.text_store.specs.Bytes.{at_place, WroteFront}
 
 -- bytes are there, and one more is put behind them
@@ -18,6 +19,23 @@ wrote_push xs b buffer h =
           ∙ set-append_seam xs _ (drop (suc (length xs)) buffer) b
           ∙ sym (append_assoc xs (b ∷ []) (drop (suc (length xs)) buffer))
           ∙ ap (λ n. (xs ++ b ∷ []) ++ drop n buffer) more;
+    }
+
+-- and one more behind what was written
+pub wrote_more : {bytes before after : List ℕ} {count : ℕ} (b : ℕ) → WroteFront bytes before count after → length bytes < length before → WroteFront (bytes ++ b ∷ []) before (count + 1) (set after count b)
+wrote_more {bytes} {before} b wrote h = rw (wrote.count_is, wrote.after_is) (wrote_push bytes b before h)
+
+-- digits that end at a place, behind a sign at the front
+pub wrote_digits : (sign digits buffer : List ℕ) (start end : ℕ) {before after : List ℕ} → before ≡ sign ++ drop (length sign) buffer → end ≡ length sign + length digits → start + length digits ≡ end → drop start after ≡ digits ++ drop end before → take start after ≡ take start before → WroteFront (sign ++ digits) buffer end after
+wrote_digits sign digits buffer start end {before} {after} signed ends starts back front =
+    let long = length-append sign digits in
+    let rest : drop end before ≡ drop (length (sign ++ digits)) buffer = ap (drop end) signed ∙ drop-append-drop (length sign) buffer sign end (omega arith) refl ∙ ap (λ n. drop n buffer) (omega arith) in
+    record {
+      count_is = omega arith;
+      after_is = sym (take-append-drop start after)
+          ∙ ap (λ bs. bs ++ drop start after) (front ∙ ap (take start) signed ∙ take_at sign (drop (length sign) buffer) start (omega arith))
+          ∙ ap (λ bs. sign ++ bs) (back ∙ ap (λ bs. digits ++ bs) rest)
+          ∙ sym (append_assoc sign digits (drop (length (sign ++ digits)) buffer));
     }
 
 module _ (place : ℕ) (buffer : List ℕ) where
@@ -40,6 +58,17 @@ module _ (place : ℕ) (buffer : List ℕ) where
 -- a write is a copy of all of its bytes
 as_paste : (place : ℕ) (bytes buffer : List ℕ) → paste buffer place bytes (length bytes) ≡ at_place place bytes buffer
 as_paste place bytes buffer = paste_all buffer place bytes (length bytes) refl
+
+pub write_nothing : (place : ℕ) (buffer : List ℕ) → at_place place [] buffer ≡ buffer
+write_nothing place buffer = ap (λ n. take place buffer ++ drop n buffer) (add-zero place) ∙ take-append-drop place buffer
+
+pub write_behind : (place : ℕ) (xs ys buffer : List ℕ) → place ≤ length buffer → at_place (place + length xs) ys (at_place place xs buffer) ≡ at_place place (xs ++ ys) buffer
+write_behind place xs ys buffer h =
+    sym (as_paste (place + length xs) ys (at_place place xs buffer))
+    ∙ ap (λ b. paste b (place + length xs) ys (length ys)) (sym (as_paste place xs buffer))
+    ∙ paste-paste buffer place xs ys (length xs) (length ys) refl refl h
+    ∙ ap (paste buffer place (xs ++ ys)) (sym (length-append xs ys))
+    ∙ as_paste place (xs ++ ys) buffer
 
 pub length_at_place : (place : ℕ) (bytes buffer : List ℕ) → place + length bytes ≤ length buffer → length (at_place place bytes buffer) ≡ length buffer
 length_at_place place bytes buffer h =

@@ -19,10 +19,16 @@ fn is_fit(literal: i32) -> bool
 }
 
 // The first literal that does not fit.
+// kept: a loop; by `find`, which counts on before it asks, a put of an empty clause takes twice the time.
 fn first_unfit(clause: &[i32]) -> Option<&i32>
     ensures { option_copied result ≡ find (λ l. not (fits byte_largest l)) clause.now }
 {
-    clause.iter().find(|literal| !is_fit(**literal))
+    for literal in clause {
+        if !is_fit(*literal) {
+            return Some(literal);
+        }
+    }
+    None
 }
 
 // Refuses a clause by the number of its first literal that does not fit.

@@ -4,7 +4,7 @@ use Rattle.std.proofs.lemmas.List.{length-map, take_at, drop_at}
 use Rattle.mapping.specs.Memory.{over}
 
 module _ (xs before memory : List ℤ) (k : ℕ) (at : k ≡ length xs) (e : memory ≡ over xs before) where
-  front_is : take k memory ≡ xs
+  pub front_is : take k memory ≡ xs
   front_is = ap (take k) e ∙ take_at xs (drop (length xs) before) k (sym at)
 
   pub front_mapped : (f : ℤ → ℤ) (changed : List ℤ) → changed ≡ map f (take k memory) → changed ++ drop k memory ≡ over (map f xs) before

@@ -1,4 +1,6 @@
 pub mod Fronts
 pub mod OneBit
+pub mod Small
 pub mod TieWords
+pub mod TieWriting
 pub mod ValueTies

@@ -9,7 +9,7 @@ use Rattle.formula.specs.Boolean.{Clause, local, number, opposite, words, words_
 use Rattle.mapping.proofs.Moving.{flat_append}
 use Rattle.mapping.specs.Memory.{ended, flat, over}
 use Rattle.encodings.proofs.Appending.{Appending, appending_one, appending_all, written_more, written_start}
-use Rattle.encodings.proofs.Writing.{Writing, ClauseWritten, writing_clause, writing_all}
+use Rattle.encodings.proofs.Writing.{Writing, ClauseWritten, writing_next, writing_fit, writing_all}
 use Rattle.encodings.specs.Ties.{tie}
 
 -- a literal of few Booleans is a word, and its opposite too
@@ -40,16 +40,22 @@ pub implications_words : (x : ℤ) (ls : List ℤ) → words_of (implications x 
 implications_words x [] = refl
 implications_words x (l ∷ ls) = let more = implications_words x ls in omega arith
 
--- the next of them is written
-pub implications_more : (before memory part : List ℤ) (n long k i : ℕ) (x a b : ℤ) (ls : List ℤ) → i < length ls →
-    a ≡ opposite x → b ≡ get_or ls i (pos 0) → long ≡ length memory → words_of (implications x ls) ≤ length before →
-    ClauseWritten (a ∷ b ∷ []) (take (long - n) (drop n memory)) k part → Writing before memory n (implications x (drop i ls)) (implications x ls) →
-    Writing before (put_mid n (long - n) memory part) (n + k) (implications x (drop (i + 1) ls)) (implications x ls)
-implications_more before memory part n long k i x a b ls h first second l room is w =
+-- there is room for the next of them, and it is written
+pub implications_room : (before memory : List ℤ) (n i : ℕ) (x : ℤ) (ls : List ℤ) → i < length ls → words_of (implications x ls) ≤ length before →
+    Writing before memory n (implications x (drop i ls)) (implications x ls) → n + 3 ≤ length memory
+implications_room before memory n i x ls h room w =
+    writing_next before memory n (opposite x ∷ get_or ls i (pos 0) ∷ []) (implications x (drop (i + 1) ls)) (implications x ls) room
+    (subst (λ ks. Writing before memory n (implications x ks) (implications x ls)) (drop_more ls i (pos 0) h) w)
+
+pub implications_more : (before memory part : List ℤ) (n end k i : ℕ) (x a b : ℤ) (ls : List ℤ) → i < length ls →
+    a ≡ opposite x → b ≡ get_or ls i (pos 0) → end ≡ n + 3 → words_of (implications x ls) ≤ length before →
+    ClauseWritten (a ∷ b ∷ []) (take (end - n) (drop n memory)) k part → Writing before memory n (implications x (drop i ls)) (implications x ls) →
+    Writing before (put_mid n (end - n) memory part) (n + k) (implications x (drop (i + 1) ls)) (implications x ls)
+implications_more before memory part n end k i x a b ls h first second at room is w =
     let rest = implications x (drop (i + 1) ls) in
     let parts : implications x (drop i ls) ≡ (a ∷ b ∷ []) ∷ rest =
     ap (implications x) (drop_more ls i (pos 0) h) ∙ ap₂ (λ (y z : ℤ). (y ∷ z ∷ []) ∷ rest) (sym first) (sym second) in
-    writing_clause before memory part n long k (a ∷ b ∷ []) rest (implications x ls) l room is (subst (λ cs. Writing before memory n cs (implications x ls)) parts w)
+    writing_fit before memory part n end k (a ∷ b ∷ []) rest (implications x ls) at room is (subst (λ cs. Writing before memory n cs (implications x ls)) parts w)
 
 pub implications_all : (before memory : List ℤ) (n i : ℕ) (x : ℤ) (ls : List ℤ) → length ls ≤ i →
     Writing before memory n (implications x (drop i ls)) (implications x ls) → (n ≡ words_of (implications x ls)) × (memory ≡ over (flat (implications x ls)) before)
@@ -59,6 +65,9 @@ implications_all before memory n i x ls h w =
 -- what is left of a clause that ends in opposites
 abbrev pub converse : List ℤ → List ℤ
 converse ls = map opposite ls ++ pos 0 ∷ []
+
+pub converse_length : (ls : List ℤ) → length (converse ls) ≡ length ls + 1
+converse_length ls = length-append (map opposite ls) (pos 0 ∷ []) ∙ ap (λ n. n + 1) (length-map ls opposite)
 
 pub converse_step : (before memory : List ℤ) (start n i : ℕ) (a : ℤ) (ls all : List ℤ) → n < length before → i < length ls →
     a ≡ opposite (get_or ls i (pos 0)) → Appending before memory start n (converse (drop i ls)) all → Appending before (set memory n a) start (n + 1) (converse (drop (i + 1) ls)) all
@@ -72,7 +81,7 @@ pub converse_all : (memory last : List ℤ) (n i : ℕ) (x : ℤ) (ls : List ℤ
 converse_all memory last n i x ls room at h w =
     let front = set memory 0 x in
     let count = w.words in
-    let long : length (converse ls) ≡ length ls + 1 = length-append (map opposite ls) (pos 0 ∷ []) ∙ ap (λ k. k + 1) (length-map ls opposite) in
+    let long = converse_length ls in
     let one : length (converse (drop i ls)) ≡ 1 = ap (λ ks. length (converse ks)) (drop_all i ls h) in
     let place : i + 1 ≡ n = omega arith in
     let done = appending_one front last 1 (i + 1) (pos 0) [] (converse ls) (omega (arith, length-set memory 0 x))

@@ -21,7 +21,7 @@ module _ (M : Meaning) (m : ℕ) where
   abbrev pub ties_left : ℕ → List Clause
   ties_left k = flat_map tie_of (numbers k (m + 1 - k))
 
-  ties_next : (k : ℕ) → k ≤ m → ties_left k ≡ tie_of k ++ ties_left (k + 1)
+  pub ties_next : (k : ℕ) → k ≤ m → ties_left k ≡ tie_of k ++ ties_left (k + 1)
   ties_next k h = ap (flat_map tie_of) (numbers_more k (m + 1) (omega arith))
 
   -- a pass over the values: with the ties of some written, those that are left make memory what it is to be

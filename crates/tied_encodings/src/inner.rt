@@ -4,11 +4,12 @@ ghost use Rattle.encodings.proofs.LogarithmicLaws.{full_logarithmic_tieable};
 ghost use Rattle.encodings.proofs.RegularLaws.{full_regular_tieable};
 ghost use Rattle.tied_encodings.specs.Narrow.{inner_narrow};
 
+use super::moves::move_few;
 use arrayvec::ArrayVec;
 use encodings::{FullRegular, Listed};
 use formula::Sign;
 use full_encodings::FullLogarithmic;
-use mapping::{Choice, FORM_LITERALS, HeldForm, Mapping, move_words};
+use mapping::{Choice, FORM_LITERALS, HeldForm, Mapping};
 
 // A mapping whose plus forms ask for all of their literals, and beside which there is room for the values and their ties.
 pub trait Inner: Mapping + Copy {
@@ -35,7 +36,7 @@ impl<M: Inner> Listed for InnerLists<M> {
     fn literals(&self, choice: Choice) -> ArrayVec<i32, FORM_LITERALS> {
         let Choice { size, value } = choice;
         let mut literals = HeldForm::ask(&self.0, size, Sign::Plus, value).literals;
-        move_words(literals.as_mut_slice(), size);
+        move_few(literals.as_mut_slice(), size);
         literals
     }
 }

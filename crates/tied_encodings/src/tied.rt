@@ -11,10 +11,11 @@ ghost use Rattle.encodings.proofs.TiedLaws.{tied_lawful};
 ghost use Rattle.tied_encodings.specs.Marks.{only};
 
 use super::inner::{Inner, InnerLists};
+use super::moves::move_few;
 use super::ties::Tie;
 use encodings::Listed;
 use formula::Sign;
-use mapping::{AXIOM_WORDS, Choice, FORM_LITERALS, Mapping, Shape, Size, in_sizes, move_words};
+use mapping::{AXIOM_WORDS, Choice, FORM_LITERALS, Mapping, Shape, Size, in_sizes};
 use standard_encoding::Standard;
 
 // A Boolean for each value beside an inner mapping, tied to its forms.
@@ -35,7 +36,7 @@ impl<M: Inner> Tied<M> {
         ensures memory { memory.new ≡ over (flat (map (map (shifted size.count)) (M.meaning.axioms size.count))) memory.old }
     {
         let count = self.0.axioms(size.count, memory);
-        move_words(&mut memory[..count], size.count);
+        move_few(&mut memory[..count], size.count);
         count
     }
 

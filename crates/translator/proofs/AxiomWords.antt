@@ -1,13 +1,13 @@
 -- The axioms of a variable as words in memory. Assumes nothing.
-use Rattle.std.proofs.Common.{◌≡◌, ℕ, ◌+◌, ◌≤◌, true, List, [], ◌∷◌, ◌++◌, map, length, take, drop, ℤ, Ok, Result, sym, refl, ap, ◌∙◌, subst, append_assoc, append-nil, arith}
+use Rattle.std.proofs.Common.{◌≡◌, ℕ, ◌+◌, ◌≤◌, true, List, [], ◌∷◌, ◌++◌, map, length, take, drop, ℤ, Ok, Result, sym, refl, ap, ◌∙◌, subst, append_assoc, append-nil, arith, ◌^◌, ◌<◌, Bool, leb, ltb, pos}
 use Rattle.std.proofs.lemmas.List.{take_at, drop_at}
-use Rattle.std.proofs.lemmas.Bool.{and_parts}
-use Rattle.formula.specs.Boolean.{Clause, local, words_of}
+use Rattle.std.proofs.lemmas.Bool.{and_parts, leb-true, lt-ltb}
+use Rattle.formula.specs.Boolean.{Clause, local, words_of, number}
 use Rattle.formula.specs.Tests.{every}
 use Rattle.mapping.specs.Forms.{shifted}
 use Rattle.mapping.specs.Meanings.{Meaning, Lawful}
-use Rattle.mapping.specs.Memory.{ended, flat, over, moved_word}
-use Rattle.mapping.proofs.Moving.{length_flat, no_zero, moved_flat, words_moved}
+use Rattle.mapping.specs.Memory.{ended, flat, over, moved_word, shifted_word}
+use Rattle.mapping.proofs.Moving.{length_flat, no_zero, moved_flat, words_moved, shifted_literal, shifted_flat}
 use Rattle.mapping.proofs.Ranges.{axioms_own}
 use Rattle.store.specs.Stores.{Terms, Bounded, Contents, fits, words_left}
 use Rattle.store.specs.declared.StoreFault.{StoreFault}
@@ -15,8 +15,8 @@ use Rattle.translator.specs.Filing.{room_answer, axioms_answer, with_all, after_
 use Rattle.translator.specs.Places.{placed_axioms}
 use Rattle.translator.specs.Placed.{Takes}
 use Rattle.translator.specs.Words.{ended_in, axioms_left}
-use Rattle.translator.proofs.Fitting.{clause_fits}
-use Rattle.formula.proofs.Tests.{every_weaker, every_map}
+use Rattle.translator.proofs.Fitting.{clause_fits, shifted_number}
+use Rattle.formula.proofs.Tests.{every_weaker, every_map, every_append}
 use Rattle.translator.proofs.Rooms.{room_ok}
 use Rattle.translator.proofs.Worded.{ended_in_more}
 
@@ -35,6 +35,24 @@ ended_flat L (c ∷ cs) fit =
     let both = and_parts (every (fits L) c) (every (every (fits L)) cs) fit in
     ended_clause L [] c (flat cs) both.0 ∙ ap (λ x. c ∷ x) (ended_flat L cs both.1)
 
+-- words of so few Booleans, moved, have 32 bits
+module _ (w start : ℕ) where
+  pub small_words : start + w < 2 ^ 31 → (cs : List Clause) → every (every (local w)) cs ≡ true → every (λ x. ltb (number (shifted_word start x)) (2 ^ 31)) (flat cs) ≡ true
+  small_words within [] own = refl
+  small_words within (c ∷ cs) own =
+      let both = and_parts (every (local w) c) (every (every (local w)) cs) own in
+      every_append small (ended c) (flat cs)
+      (every_append small c (pos 0 ∷ []) (every_weaker (local w) small one c both.0) refl)
+      (small_words within cs both.1)
+    where
+      small : ℤ → Bool
+      small x = ltb (number (shifted_word start x)) (2 ^ 31)
+
+      one : (l : ℤ) → local w l ≡ true → small l ≡ true
+      one l own =
+          let high = leb-true (number l) w (and_parts (leb 1 (number l)) (leb (number l) w) own).1 in
+          lt-ltb _ _ (omega (arith, shifted_number start l, ap number (shifted_literal start l (no_zero w l own))))
+
 module _ {Cell : Type 0} (T : Terms Cell) (K : Contents Cell) (M : Meaning) (lawful : Lawful M) (bounded : Bounded T) (start m : ℕ) where
   abbrev own : every (every (local (M.width m))) (M.axioms m) ≡ true
   own = axioms_own M lawful m
@@ -43,6 +61,10 @@ module _ {Cell : Type 0} (T : Terms Cell) (K : Contents Cell) (M : Meaning) (law
   placed_fit within =
       every_map (every (fits T.largest)) (map (shifted start)) (M.axioms m)
       (every_weaker (every (local (M.width m))) (λ c. every (fits T.largest) (map (shifted start) c)) (clause_fits T.largest start (M.width m) within) (M.axioms m) own)
+
+  -- the clauses that end in the moved words are the placed axioms
+  pub placed_ended : start + M.width m ≤ T.largest → ended_in [] (map (shifted_word start) (flat (M.axioms m))) ≡ placed_axioms M start m
+  placed_ended within = ap (ended_in []) (shifted_flat (M.width m) start (M.axioms m) own) ∙ ended_flat T.largest (placed_axioms M start m) (placed_fit within)
 
   -- what the mapping has written is asked for and stored
   module _ (before written : List ℤ) (count h : ℕ) (answer : Result (Unit {0}) StoreFault) (u : Unit {0})

@@ -3,6 +3,8 @@ pub mod Counting
 pub mod Filled
 pub mod Fitting
 pub mod Held
+pub mod Literals
+pub mod Loading
 pub mod Products
 pub mod Reaching
 pub mod Rooms

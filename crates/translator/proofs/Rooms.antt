@@ -16,6 +16,14 @@ use Rattle.translator.specs.Places.{form_at, placed_clause, reach}
 use Rattle.translator.specs.Placed.{form_in, product_behind, Takes, Ready}
 use Rattle.translator.proofs.Fitting.{form_fits, forms_fit, product_fits, all_small}
 
+-- an error is never Ok
+abbrev Failed : Result (Unit {0}) StoreFault → Type 0
+Failed (Ok u) = ⊥
+Failed (Err e) = Unit {0}
+
+pub never_ok : {P : Type 0} (e : StoreFault) (u : Unit {0}) → Err e ≡ Ok u → P
+never_ok e u h = absurd (subst Failed h tt)
+
 module _ {Cell : Type 0} (T : Terms Cell) (K : Contents Cell) where
   pub room_ok : (h n : ℕ) (u : Unit {0}) → room_answer T K h n ≡ Ok u → (h ≤ T.largest) × (n ≤ words_left T K)
   room_ok h n u ok = ⊎_elim
@@ -44,24 +52,23 @@ module _ {Cell : Type 0} (T : Terms Cell) (K : Contents Cell) where
     behind_none = map-id (distributed (map form_in product)) ∙ ap distributed a.forms
 
     -- where the room is there, the store takes the clause's product
-    pub ready : Lawful M → Bounded T → (u : Unit {0}) → answer ≡ Ok u → (front : List ℤ) → front ≡ [] → Ready T K front product
-    ready lawful bounded u ok front none =
+    pub ready : Lawful M → Bounded T → (u : Unit {0}) → answer ≡ Ok u → Ready T K [] product
+    ready lawful bounded u ok =
         let room = room_ok h n u (sym a.said ∙ ok) in
         let fit = forms_fit M lawful T.largest ps ls (omega (arith, room.0, a.highest)) in
-        subst (λ (xs : List ℤ). Ready T K xs product) (sym none)
-        (record {
+        record {
           small = all_small T.largest bounded.largest product (ap (every (form_fits T.largest)) a.forms ∙ fit);
           space = omega (arith, a.short);
           takes = subst (Takes T K) (sym behind_none) (record {
             fit = product_fits T.largest (map (form_at M ps) ls) fit;
             room = omega (arith, room.1, a.counted, ap words_of (ap distributed a.forms));
           });
-        })
+        }
 
     -- the product is stored, all of it
-    pub stored : (r : Result (Unit {0}) StoreFault) (u : Unit {0}) (K' : Contents Cell) (front : List ℤ) → answer ≡ Ok u → front ≡ [] → r ≡ Ok tt → K' ≡ with_all T K (product_behind front product) →
+    pub stored : (r : Result (Unit {0}) StoreFault) (u : Unit {0}) (K' : Contents Cell) → answer ≡ Ok u → r ≡ Ok tt → K' ≡ with_all T K (product_behind [] product) →
         (r ≡ clause_answer M T K ps ls) × (K' ≡ after_all r T K (placed_clause M ps ls))
-    stored r u K' front was none is after = (
+    stored r u K' was is after = (
       is ∙ sym was ∙ answer_is,
-      after ∙ ap (λ (xs : List ℤ). with_all T K (product_behind xs product)) none ∙ ap (with_all T K) behind_none ∙ sym (ap (λ (x : Result (Unit {0}) StoreFault). after_all x T K (placed_clause M ps ls)) is),
+      after ∙ ap (with_all T K) behind_none ∙ sym (ap (λ (x : Result (Unit {0}) StoreFault). after_all x T K (placed_clause M ps ls)) is),
     )

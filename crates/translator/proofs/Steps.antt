@@ -19,7 +19,7 @@ use Rattle.translator.proofs.Products.{left, left_more, left_none, product_all, 
 abbrev pub moved : PlacedForm → ℕ → ℤ
 moved p i = shifted p.start (get_or p.literals.items i (pos 0))
 
-own_at : (p : PlacedForm) (i : ℕ) → i < length p.literals.items → get_or (own_literals p) i (pos 0) ≡ moved p i
+pub own_at : (p : PlacedForm) (i : ℕ) → i < length p.literals.items → get_or (own_literals p) i (pos 0) ≡ moved p i
 own_at p i within = get_or-map (shifted p.start) p.literals.items i (pos 0) (pos 0) within
 
 -- one literal more, behind those in front

@@ -5,7 +5,7 @@ ghost use Rattle.translator.specs.Places.{placed_clause};
 
 use crate::layout::Layout;
 use crate::places::Place;
-use crate::product::{count_words, put_product};
+use crate::product::{count_words, put_all};
 use crate::room::check_room;
 use arrayvec::ArrayVec;
 use formula::Literal;
@@ -28,8 +28,9 @@ pub fn file_clause<M: Mapping, S: Store>(
 {
     let literals = &literals[..CLAUSE_LITERALS.min(literals.len())];
     let layout = Layout { mapping, places };
-    let forms = layout.forms(literals);
+    let mut forms = ArrayVec::new();
+    layout.load_forms(literals, &mut forms);
     let product = forms.as_slice();
     check_room(store, layout.reach(literals), count_words(product))?;
-    put_product(store, product, &mut ArrayVec::new())
+    put_all(store, product)
 }

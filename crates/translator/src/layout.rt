@@ -33,25 +33,34 @@ impl<M: Mapping> Layout<'_, M> {
         ensures { form_in result ≡ form_at M.Mapping.meaning self.now.places.now literal.now }
     {
         let place = self.place(literal.variable);
-        let form = HeldForm::ask(self.mapping, place.size, literal.sign, literal.value);
+        let HeldForm { kind, literals } = HeldForm::ask(
+            self.mapping,
+            place.size,
+            literal.sign,
+            literal.value,
+        );
         PlacedForm {
-            kind: form.kind,
-            literals: form.literals,
+            literals,
             start: place.start,
+            kind,
         }
     }
 
-    // The forms of the literals of a clause, in order: one for each.
+    // Puts the forms of the literals of a clause into a vector that holds none, in order: one for each.
+    // kept: the vector is handed in, since one that is answered is copied twice on its way out.
     // kept: that there are at most 16 is asked here and where words are counted; a slice that knows it would be a type more.
-    pub(crate) fn forms(&self, literals: &[Literal]) -> ArrayVec<PlacedForm, CLAUSE_LITERALS>
-        requires { length literals.now ≤ 16 }
-        ensures { map form_in result.items ≡ map (form_at M.Mapping.meaning self.now.places.now) literals.now }
+    pub(crate) fn load_forms(
+        &self,
+        literals: &[Literal],
+        forms: &mut ArrayVec<PlacedForm, CLAUSE_LITERALS>,
+    )
+        requires few { length literals.now ≤ 16 }
+        requires none { forms.old.items ≡ [] }
+        ensures { map form_in forms.new.items ≡ map (form_at M.Mapping.meaning self.now.places.now) literals.now }
     {
-        let mut forms = ArrayVec::new();
         for literal in literals {
             forms.push(self.form(literal));
         }
-        forms
     }
 
     // The number of the last Boolean of the variable of a literal.

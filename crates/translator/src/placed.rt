@@ -12,9 +12,9 @@ use mapping::{FORM_LITERALS, Kind};
 // kept: kind and literals side by side, and no HeldForm within, since few speaks of the literals and what is asked of a form reads both.
 #[derive(Drop)]
 pub(crate) struct PlacedForm {
-    pub(crate) kind: Kind,
     pub(crate) literals: ArrayVec<i32, FORM_LITERALS>,
     pub(crate) start: u32,
+    pub(crate) kind: Kind,
     ghost few: { array_vec_len literals ≤ 8 },
 }
 
@@ -22,9 +22,9 @@ pub(crate) struct PlacedForm {
 impl Default for PlacedForm {
     fn default() -> PlacedForm {
         PlacedForm {
-            kind: Kind::AnyOf,
             literals: ArrayVec::new(),
             start: 0,
+            kind: Kind::AnyOf,
         }
     }
 }

@@ -1,5 +1,5 @@
 // Every clause of a product of forms, put into a store.
-ghost use Rattle.std.specs.Prelude.{◌≡◌, ◌≤◌, map, length, Ok};
+ghost use Rattle.std.specs.Prelude.{◌≡◌, ◌≤◌, [], map, length, Ok};
 ghost use Rattle.formula.specs.Boolean.{words_of};
 ghost use Rattle.mapping.specs.Forms.{distributed};
 ghost use Rattle.translator.specs.Filing.{with_all};
@@ -26,7 +26,7 @@ pub(crate) fn count_words(forms: &[PlacedForm]) -> u64
 
 // Puts every clause of the product of these forms, each behind the literals of `front`, which is left as it was.
 // The store has been asked for room, so no put refuses.
-pub(crate) fn put_product<S: Store>(
+fn put_product<S: Store>(
     store: &mut S,
     forms: &[PlacedForm],
     front: &mut ArrayVec<i32, FRONT_LITERALS>,
@@ -48,7 +48,7 @@ pub(crate) fn put_product<S: Store>(
             for choice in literals {
                 front.push(shift(*choice, first.start));
                 put_product(store, rest, front)?;
-                front.truncate(used);
+                front.pop();
             }
         }
         Kind::AnyOf => {
@@ -60,4 +60,15 @@ pub(crate) fn put_product<S: Store>(
         }
     }
     Ok(())
+}
+
+// Puts every clause of the product of these forms.
+// kept: a call of its own, so that the literals in front are filled with zeros once, and only where there is room.
+pub(crate) fn put_all<S: Store>(store: &mut S, forms: &[PlacedForm]) -> Result<(), StoreFault>
+    requires { Ready (S.Store.terms store.old) (S.Store.contents store.old) [] forms.now }
+    ensures answer { result ≡ Ok tt }
+    ensures after { S.Store.contents store.new ≡ with_all (S.Store.terms store.old) (S.Store.contents store.old) (product_behind [] forms.now) }
+    ensures same { S.Store.terms store.new ≡ S.Store.terms store.old }
+{
+    put_product(store, forms, &mut ArrayVec::new())
 }

@@ -33,3 +33,8 @@ pub entries_clause : (ss : List Slot) (ls more : List Literal) → sum_of litera
 entries_clause [] ls more h = grind (arith, common_steps)
 entries_clause (Variable k ∷ ss) ls more h = cc (entries_clause ss ls more (omega arith))
 entries_clause (Clause n ∷ ss) ls more h = grind (arith, common_steps, entries_clause ss (drop n ls) more)
+
+pub clauses_few : (ss : List Slot) → count is_clause ss ≤ length ss
+clauses_few [] = omega arith
+clauses_few (Variable m ∷ ss) = omega (arith, clauses_few ss)
+clauses_few (Clause n ∷ ss) = omega (arith, clauses_few ss)

@@ -1,9 +1,9 @@
 // A workbook: a sheet of variables and clauses, and the store that holds its translation.
 #![tactic(auto)]
 
-mod book;
-mod faults;
-mod sheet;
+pub mod book;
+pub mod faults;
+pub mod sheet;
 
 pub use book::{Parts, Workbook};
 pub use faults::WorkbookFault;

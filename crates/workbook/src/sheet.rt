@@ -21,7 +21,7 @@ const MOST_LITERALS: usize = 4096;
 
 // An entry: a variable of a size, or a clause of so many literals.
 #[derive(Clone, Copy)]
-enum Slot {
+pub enum Slot {
     Variable(u32),
     Clause(u32),
 }

@@ -2,11 +2,17 @@
 use Rattle.std.proofs.Common.{◌+◌, refl, arith}
 use Rattle.std.proofs.lemmas.Int.{ints}
 use Rattle.encodings.specs.Limits.{size_high, value_high}
-use Rattle.standard_encoding.proofs.ExclusionWriting.{pairs_none, pairs_room, pairs_more, pairs_all}
+use Rattle.standard_encoding.proofs.ExclusionWriting.{pairs_none, pairs_room, pair_room, pairs_more, pairs_all}
 use Rattle.standard_encoding.proofs.standard.write_exclusions_of.Goals as goal
 
 pub loop-later-init : goal.loop-later-init
 loop-later-init c = (omega arith, pairs_none c.args.memory.now c.args.choice.size c.args.choice.value)
+
+pub slice_bounds-write_clause-end-in-loop-later : goal.slice_bounds-write_clause-end-in-loop-later
+slice_bounds-write_clause-end-in-loop-later c =
+    let room = pair_room c.args.memory.now c.loop-later.memory _ c.args.choice.size c.args.choice.value c.loop-later.later c.loop-later-test.true c.requires
+    c.loop-later.invariant.1 in
+    omega arith
 
 pub loop-later-preserved : goal.loop-later-preserved
 loop-later-preserved c =

@@ -1,15 +1,31 @@
-use Rattle.std.proofs.Common.{◌≡◌, drop, ltb, ap, ◌∙◌, arith, length-drop}
-use Rattle.std.proofs.lemmas.List.{take_all}
-use Rattle.std.specs.List.{count_by}
-use Rattle.text_store.proofs.Backwards.{piece_behind, before_behind}
+use Rattle.std.proofs.Common.{◌≡◌, ◌+◌, ◌-◌, arith, rules}
+use Rattle.text_store.proofs.Backwards.{piece_none, piece_within, piece_more, piece_first}
 use Rattle.text_store.proofs.scanning.last_piece.Goals as goal
+
+pub loop-at-init : goal.loop-at-init
+loop-at-init c = piece_none c.args.mark c.args.bound c.args.bytes.now c.requires.closed c.requires.some _ c.from-lows.ensures
+
+pub returns-then-byte-mark-clause-piece : goal.returns-then-byte-mark-clause-piece
+returns-then-byte-mark-clause-piece c =
+    let back : c.loop-at.at - 1 + 1 ≡ c.loop-at.at = omega arith in
+    rw back c.loop-at.invariant
+
+pub returns-then-byte-mark-clause-before : goal.returns-then-byte-mark-clause-before
+returns-then-byte-mark-clause-before c =
+    let back : c.loop-at.at - 1 + 1 ≡ c.loop-at.at = omega arith in
+    rw back (piece_first c.args.mark c.args.bound c.args.bytes.now _ _ c.loop-at.invariant c.loop-at-test.true c.if-byte-mark.true)
+
+pub overflow_add-lows : goal.overflow_add-lows
+overflow_add-lows c =
+    let more = piece_more c.args.mark c.args.bound c.args.bytes.now _ _ c.loop-at.invariant c.loop-at-test.true c.if-byte-mark.false _ c.from-lows-in-loop-at.ensures in
+    let h = piece_within c.args.mark c.args.bound c.args.bytes.now _ _ more in
+    search rules
+
+pub loop-at-preserved : goal.loop-at-preserved
+loop-at-preserved c =
+    piece_more c.args.mark c.args.bound c.args.bytes.now _ _ c.loop-at.invariant c.loop-at-test.true c.if-byte-mark.false _ c.from-lows-in-loop-at.ensures
 
 pub returns-clause-piece : goal.returns-clause-piece
 returns-clause-piece c =
-    let behind = drop c.behind_last-start.result c.args.bytes.now in
-    let found : c.count_lows-lows.result ≡ count_by (λ b. ltb b c.args.bound) behind = c.count_lows-lows.ensures ∙ ap (count_by (λ b. ltb b c.args.bound)) (take_all _ behind (omega (arith, length-drop c.behind_last-start.result c.args.bytes.now))) in
-    rw found (piece_behind c.args.mark c.args.bound c.args.bytes.now c.requires.closed c.requires.some _ c.behind_last-start.ensures.within c.behind_last-start.ensures.unmarked)
-
-pub returns-clause-before : goal.returns-clause-before
-returns-clause-before c =
-    before_behind c.args.mark c.args.bound c.args.bytes.now c.requires.closed c.requires.some _ c.behind_last-start.ensures.within c.behind_last-start.ensures.unmarked c.behind_last-start.ensures.marked
+    let none : c.loop-at.at ≡ 0 = omega arith in
+    rw none at c.loop-at.invariant

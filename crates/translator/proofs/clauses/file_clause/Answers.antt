@@ -29,18 +29,18 @@ asked T K M ps ls n forms product h words answer first loaded same short highest
       said = said;
     }
 
-pub put_product-requires : goal.put_product-requires
-put_product-requires g c =
+pub put_all-requires : goal.put_all-requires
+put_all-requires g c =
     let T = g.S.Store.terms c.args.store.now in
     let K = g.S.Store.contents c.args.store.now in
-    let ask = asked T K g.M.Mapping.meaning c.args.places.now c.args.literals.now _ _ _ _ _ _ c.min.ensures c.forms-forms.ensures c.as_slice-product.ensures.value c.as_slice-product.ensures.fits c.reach.ensures c.count_words.ensures c.check_room.ensures in
-    ready _ _ _ _ _ _ _ _ _ ask g.met.M.Mapping.lawful (g.met.S.Store.laws c.args.store.now) _ c.in_ok-check_room.was _ c.new.ensures
+    let ask = asked T K g.M.Mapping.meaning c.args.places.now c.args.literals.now _ _ _ _ _ _ c.min.ensures c.load_forms.ensures c.as_slice-product.ensures.value c.as_slice-product.ensures.fits c.reach.ensures c.count_words.ensures c.check_room.ensures in
+    ready _ _ _ _ _ _ _ _ _ ask g.met.M.Mapping.lawful (g.met.S.Store.laws c.args.store.now) _ c.in_ok-check_room.was
 
 pub returns : goal.returns
 returns g c =
     let T = g.S.Store.terms c.args.store.now in
     let K = g.S.Store.contents c.args.store.now in
-    let ask = asked T K g.M.Mapping.meaning c.args.places.now c.args.literals.now _ _ _ _ _ _ c.min.ensures c.forms-forms.ensures c.as_slice-product.ensures.value c.as_slice-product.ensures.fits c.reach.ensures c.count_words.ensures c.check_room.ensures in
-    let said = c.put_product.ensures in
-    let done = stored _ _ _ _ _ _ _ _ _ ask c.put_product.result _ _ _ c.in_ok-check_room.was c.new.ensures said.answer said.after in
+    let ask = asked T K g.M.Mapping.meaning c.args.places.now c.args.literals.now _ _ _ _ _ _ c.min.ensures c.load_forms.ensures c.as_slice-product.ensures.value c.as_slice-product.ensures.fits c.reach.ensures c.count_words.ensures c.check_room.ensures in
+    let said = c.put_all.ensures in
+    let done = stored _ _ _ _ _ _ _ _ _ ask c.put_all.result _ _ c.in_ok-check_room.was said.answer said.after in
     record { answer = done.0; after = done.1; same = said.same }

@@ -1,4 +1,4 @@
-use Rattle.std.proofs.Common.{◌≡◌, ℕ, ◌-◌, ◌^◌, ◌<◌, ◌++◌, ◌∷◌, List, [], length, get_or, take, drop, ℤ, pos, sym, ap, ◌∙◌, subst, arith, w32, SFits, to_z, of_z, rules}
+use Rattle.std.proofs.Common.{◌≡◌, ℕ, ◌-◌, ◌^◌, ◌<◌, ◌++◌, ◌∷◌, List, [], length, get_or, take, drop, ℤ, pos, sym, ap, ◌∙◌, subst, arith, length-append, w32, SFits, to_z, of_z, rules}
 use Rattle.std.proofs.lemmas.Grind.{common_steps}
 use Rattle.std.proofs.lemmas.Int.{to_z-of_z}
 use Rattle.std.proofs.lemmas.List.{nil_from_length}
@@ -24,6 +24,13 @@ pushed : (p : PlacedForm) (front' front xs : List ℤ) (i : ℕ) (l : ℤ) → l
     front' ≡ front ++ to_z w32 (of_z w32 l) ∷ [] → SFits w32 l → SFits w32 (get_or xs i (pos 0)) → get_or xs i (pos 0) ≡ get_or p.literals.items i (pos 0) →
     front' ≡ front ++ moved p i ∷ []
 pushed p front' front xs i l shift push moved_fits fits same = push ∙ ap (λ z. front ++ z ∷ []) (to_z-of_z w32 l moved_fits ∙ shift ∙ read p xs i fits same)
+
+-- a literal that was pushed is taken off again
+taken_off : (front₀ front front' held after : List ℤ) (l : ℤ) → front ≡ front₀ → front' ≡ front ++ l ∷ [] → held ≡ front' → after ≡ take (length held - 1) held →
+    after ≡ take (length front₀) front'
+taken_off front₀ front front' held after l kept push same rest =
+    let long : length held - 1 ≡ length front₀ = omega (arith, ap length same, ap length push, ap length kept, length-append front (l ∷ [])) in
+    rest ∙ (λ j. take (long j) (same j))
 
 pub returns-in_default : goal.returns-in_default
 returns-in_default g t c =
@@ -59,7 +66,7 @@ loop-choice-preserved g t c =
     let is = parts c.args.forms.now p (search rules) c.first-item.is in
     let inside : i < length p.literals.items = grind (arith, common_steps) in
     let push = pushed p _ _ _ i _ c.shift.ensures c.push.ensures.items (search rules) (search rules) (grind (arith, common_steps)) in
-    let cut = c.truncate.ensures.items ∙ (λ j. take (c.len-used.ensures.value j) (c.put_product.ensures.kept j)) in
+    let cut = taken_off _ _ _ _ _ _ c.loop-choice.invariant.kept push c.put_product.ensures.kept c.pop.ensures.rest in
     going_more _ _ _ _ _ _ is c.requires _ _ _ _ c.loop-choice.invariant _ inside push _ _ _ c.put_product.ensures.same c.put_product.ensures.after cut
 
 pub shift-requires-in-loop-literal : goal.shift-requires-in-loop-literal

@@ -30,6 +30,7 @@ invariant_of-tie g c =
     let v = c.args.choice.value_in_range in
     let is : c.as_slice.result.now ≡ inner_list M m i = c.as_slice.ensures.value ∙ c.literals-others.ensures in
     record {
+      few = c.as_slice.ensures.fits;
       narrow = and_from _ _ (ap (local 127) (own_word m i s v) ∙ own_narrow m i s v)
           (ap (every (local 127)) is ∙ inner_narrow M g.met.M.Inner.tieable m i s v);
     }
