@@ -8,14 +8,14 @@ use std::alloc::AllocError;
 
 impl<M: Mapping> Subject<M> {
     fn try_form(&self, tally: &mut Tally, value: u32, sign: Sign) -> Result<(), AllocError> {
-        let form = self.coding.form(tally.heap, i64::from(value), sign)?;
+        let form = self.coding.form(i64::from(value), sign);
         let mut places = fillers();
-        for (place, literal) in places.iter_mut().zip(form.literals.iter()) {
+        for (place, literal) in places.iter_mut().zip(form.members()) {
             *place = i32::try_from(*literal).unwrap_or(0);
         }
         let wanted = Formed {
             kind: form.kind,
-            count: form.literals.len(),
+            count: form.count,
             places,
         };
         self.compare(tally, &(value, sign), &wanted, &self.form(value, sign))

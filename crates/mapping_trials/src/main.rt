@@ -54,6 +54,6 @@ fn main(rt: HostRuntime) -> io::Result<()> {
     try_mapping(&mut tally, Encoding::FR, FullRegular)?;
     try_mapping(&mut tally, Encoding::R, Tied(FullRegular))?;
     try_mapping(&mut tally, Encoding::HR, HalfTied(Tied(FullRegular)))?;
-    tally.finish()?;
+    tally.try_finish()?;
     rt.stdout().write_all(tally.report.as_bytes())
 }

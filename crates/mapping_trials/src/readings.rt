@@ -34,7 +34,7 @@ impl<M: Mapping> Subject<M> {
     // The codes of another size.
     fn try_other(&self, tally: &mut Tally, size: i64) -> Result<(), AllocError> {
         let coding = Coding::new(self.encoding, size);
-        for code in Readings::new(tally.heap, coding)?.codes.iter() {
+        for code in Readings::try_new(tally.heap, coding)?.codes.iter() {
             self.try_row(tally, code.bits.as_slice())?;
         }
         Ok(())

@@ -76,7 +76,7 @@ impl<M: Mapping + Copy> Subject<M> {
             encoding,
             size,
             coding,
-            readings: Readings::new(heap, coding)?,
+            readings: Readings::try_new(heap, coding)?,
         })
     }
 }
@@ -160,7 +160,7 @@ impl<M: Mapping> Subject<M> {
             wanted: wanted.as_bytes(),
             made: made.as_bytes(),
         };
-        tally.count(Score::of(false), &case)
+        tally.try_count(Score::of(false), &case)
     }
 }
 
@@ -193,6 +193,6 @@ impl<M: Mapping + Copy> Subjects<M> {
             question(subject, tally)?;
         }
         let encoding = self.encoding;
-        tally.close(format_args!("{encoding}, {group}"))
+        tally.try_close(format_args!("{encoding}, {group}"))
     }
 }

@@ -47,7 +47,7 @@ impl Coding {
 
     // The patterns of so many digits that are more than the values.
     pub fn spare(self) -> i64 {
-        2i64.saturating_pow(self.digits()).saturating_sub(self.size)
+        1i64.wrapping_shl(self.digits()).saturating_sub(self.size)
     }
 
     // The Booleans that say a value.
@@ -142,20 +142,19 @@ impl Coding {
 
     // The literals of a value among the Booleans that are digits or bounds: the digits that stay, the highest first, or the bounds that
     // tell it apart.
-    fn inner(self, heap: Global, value: i64) -> Result<Vec<i64>, AllocError> {
+    fn inner(self, value: i64) -> Form {
+        let mut list = Form::new(Kind::AllOf);
         let numbers = self.values().saturating_add(1)..=self.width();
         if self.encoding.has_digits() {
-            numbers
-                .rev()
-                .filter(|number| self.stays(*number, value))
-                .map(|number| self.literal(number, value))
-                .collect(heap)
+            for number in numbers.rev().filter(|number| self.stays(*number, value)) {
+                list.put(self.literal(number, value));
+            }
         } else {
-            numbers
-                .filter(|number| self.tells_apart(*number, value))
-                .map(|number| self.literal(number, value))
-                .collect(heap)
+            for number in numbers.filter(|number| self.tells_apart(*number, value)) {
+                list.put(self.literal(number, value));
+            }
         }
+        list
     }
 
     // Whether the form of a value with a sign is made of the value's own Boolean.
@@ -169,19 +168,19 @@ impl Coding {
     }
 
     // The form of a value with a sign. A value that there is not has a form of no literals, which is false.
-    pub fn form(self, heap: Global, value: i64, sign: Sign) -> Result<Form, AllocError> {
+    pub fn form(self, value: i64, sign: Sign) -> Form {
         if !self.has(value) {
-            return Ok(Form {
-                kind: Kind::AnyOf,
-                literals: Vec::new(heap),
-            });
+            return Form::new(Kind::AnyOf);
         }
-        let literals = if self.has_own(sign) {
-            vec![in heap; value]?
+        let all = if self.has_own(sign) {
+            Form::one(value)
         } else {
-            self.inner(heap, value)?
+            self.inner(value)
         };
-        Ok(Form::new(sign, literals))
+        match sign {
+            Sign::Plus => all,
+            Sign::Minus => all.opposite(),
+        }
     }
 
     // One of the values, and no two of them.
@@ -207,35 +206,45 @@ impl Coding {
     // Each value's own Boolean is true where all literals of the value are.
     fn put_ties(self, words: &mut Vec<i64>) -> Result<(), AllocError> {
         for value in 1..=self.size {
-            let list = self.inner(*words.allocator(), value)?;
-            for literal in list.iter() {
+            let list = self.inner(value);
+            for literal in list.members() {
                 words.extend_from_slice(&[value.saturating_neg(), *literal, 0])?;
             }
             words.push(value)?;
-            words.extend(list.iter().map(|literal| literal.saturating_neg()))?;
+            words.extend_from_slice(list.opposite().members())?;
             words.push(0)?;
         }
         Ok(())
+    }
+
+    // Adds the axioms.
+    fn add_axioms(self, words: &mut Vec<i64>) -> Result<(), AllocError> {
+        if !self.in_range() {
+            return Ok(());
+        }
+        match self.encoding {
+            Encoding::S => self.put_choice(words),
+            Encoding::FL => Ok(()),
+            Encoding::L => self.put_ties(words),
+            Encoding::FR => self.put_links(words),
+            Encoding::R | Encoding::HR => {
+                self.put_links(words)?;
+                self.put_ties(words)
+            }
+        }
     }
 
     // The axioms, each ended by a 0.
     // kept: clauses in one list, since a mapping writes them so, and all of its words are compared.
     pub fn axioms(self, heap: Global) -> Result<Vec<i64>, AllocError> {
         let mut words = Vec::new(heap);
-        if !self.in_range() {
-            return Ok(words);
-        }
-        match self.encoding {
-            Encoding::S => self.put_choice(&mut words)?,
-            Encoding::FL => {}
-            Encoding::L => self.put_ties(&mut words)?,
-            Encoding::FR => self.put_links(&mut words)?,
-            Encoding::R | Encoding::HR => {
-                self.put_links(&mut words)?;
-                self.put_ties(&mut words)?;
-            }
-        }
+        self.add_axioms(&mut words)?;
         Ok(words)
+    }
+
+    // Adds the axioms, each ended by a 0. What there is no memory for is lost.
+    pub fn put_axioms(self, words: &mut Vec<i64>) {
+        let _ = self.add_axioms(words);
     }
 
     // A row of bits of a value.

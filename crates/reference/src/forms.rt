@@ -14,36 +14,61 @@ pub enum Kind {
     AnyOf,
 }
 
-#[derive(Drop)]
+// The most literals of a form.
+const MOST: usize = 8;
+
+// A kind, so many literals, and a 0 in each place behind them.
+// kept: an array with a count, so that a form can be copied, and takes no memory.
+#[derive(Clone, Copy)]
 pub struct Form {
     pub kind: Kind,
-    pub literals: Vec<i64>,
+    pub count: usize,
+    pub literals: [i64; MOST],
 }
 
 impl Form {
-    // The form of a sign: all of the literals, or any of their opposites.
-    pub(crate) fn new(sign: Sign, mut literals: Vec<i64>) -> Form {
-        match sign {
-            Sign::Plus => Form {
-                kind: Kind::AllOf,
-                literals,
-            },
-            Sign::Minus => {
-                for literal in literals.iter_mut() {
-                    *literal = literal.saturating_neg();
-                }
-                Form {
-                    kind: Kind::AnyOf,
-                    literals,
-                }
-            }
+    // A form of no literals.
+    pub fn new(kind: Kind) -> Form {
+        Form {
+            kind,
+            count: 0,
+            literals: [0; MOST],
         }
+    }
+
+    // A form of one literal.
+    pub(crate) fn one(literal: i64) -> Form {
+        let mut own = Form::new(Kind::AllOf);
+        own.put(literal);
+        own
+    }
+
+    // Adds a literal.
+    pub fn put(&mut self, literal: i64) {
+        if let Some(place) = self.literals.get_mut(self.count) {
+            *place = literal;
+        }
+        self.count = self.count.saturating_add(1);
+    }
+
+    // The literals that there are.
+    pub fn members(&self) -> &[i64] {
+        self.literals.get(..self.count).unwrap_or(&[])
+    }
+
+    // Any of the opposites.
+    pub fn opposite(self) -> Form {
+        let mut any = Form::new(Kind::AnyOf);
+        for literal in self.members() {
+            any.put(literal.saturating_neg());
+        }
+        any
     }
 
     // In how many ways the form can put literals into a clause: one of all, or any of them at once.
     pub(crate) fn choices(&self) -> usize {
         match self.kind {
-            Kind::AllOf => self.literals.len(),
+            Kind::AllOf => self.count,
             Kind::AnyOf => 1,
         }
     }
@@ -51,8 +76,8 @@ impl Form {
     // The literals that a choice puts into a clause.
     pub(crate) fn chosen(&self, choice: usize) -> &[i64] {
         match self.kind {
-            Kind::AllOf => self.literals.get(choice..=choice).unwrap_or(&[]),
-            Kind::AnyOf => self.literals.as_slice(),
+            Kind::AllOf => self.members().get(choice..=choice).unwrap_or(&[]),
+            Kind::AnyOf => self.members(),
         }
     }
 }

@@ -1,7 +1,6 @@
 // Reads a line behind the first, one byte after the other.
 use crate::forms::Sign;
-use crate::refusals::{Fault, Refused};
-use std::alloc::{AllocError, Global};
+use crate::refusals::Refused;
 
 // A signed literal as it was read.
 #[derive(Clone, Copy)]
@@ -11,11 +10,49 @@ pub struct Signed {
     pub value: i64,
 }
 
+// The most literals of a clause.
+pub(crate) const MOST_LITERALS: usize = 16;
+
+// The literals of a clause. Of one that has more than may be, only their number is known.
+// kept: an array with a count, so that a line can be copied, and is read without memory.
+#[derive(Clone, Copy)]
+pub struct Clause {
+    pub count: usize,
+    literals: [Signed; MOST_LITERALS],
+}
+
+impl Clause {
+    // The empty clause.
+    pub fn empty() -> Clause {
+        let none = Signed {
+            sign: Sign::Plus,
+            variable: 0,
+            value: 0,
+        };
+        Clause {
+            count: 0,
+            literals: [none; MOST_LITERALS],
+        }
+    }
+
+    fn put(&mut self, literal: Signed) {
+        if let Some(place) = self.literals.get_mut(self.count) {
+            *place = literal;
+        }
+        self.count = self.count.saturating_add(1);
+    }
+
+    // The literals, where they are known.
+    pub fn literals(&self) -> Option<&[Signed]> {
+        self.literals.get(..self.count)
+    }
+}
+
 // What a line asks for.
-#[derive(Drop)]
+#[derive(Clone, Copy)]
 pub enum Line {
     Declare(i64),
-    State(Vec<Signed>),
+    State(Clause),
 }
 
 // How far a line was read.
@@ -32,25 +69,25 @@ enum Step {
 
 // A line of which some bytes were read: the literals that it had so far, and what is known of the next one.
 // kept: a machine over bytes, since the library cuts a line into parts, and a slip of one reading is not to be made in the other.
-#[derive(Drop)]
+#[derive(Clone, Copy)]
 struct Reader {
     step: Step,
     digits: u32,
     number: i64,
     sign: Sign,
     variable: i64,
-    literals: Vec<Signed>,
+    clause: Clause,
 }
 
 impl Reader {
-    fn new(heap: Global) -> Reader {
+    fn new() -> Reader {
         Reader {
             step: Step::Start,
             digits: 0,
             number: 0,
             sign: Sign::Plus,
             variable: 0,
-            literals: Vec::new(heap),
+            clause: Clause::empty(),
         }
     }
 
@@ -62,10 +99,10 @@ impl Reader {
     }
 
     // A number of at most five digits goes on.
-    fn digit(&mut self, step: Step, byte: u8) -> Result<Step, Fault> {
+    fn digit(&mut self, step: Step, byte: u8) -> Result<Step, Refused> {
         let digit = byte.wrapping_sub(b'0');
         if digit > 9 || self.digits > 4 {
-            return Err(Fault::from(Refused::Unreadable));
+            return Err(Refused::Unreadable);
         }
         self.digits = self.digits.saturating_add(1);
         self.number = self
@@ -76,17 +113,17 @@ impl Reader {
     }
 
     // A literal ends.
-    fn literal(&mut self) -> Result<Step, AllocError> {
-        self.literals.push(Signed {
+    fn literal(&mut self) -> Step {
+        self.clause.put(Signed {
             sign: self.sign,
             variable: self.variable,
             value: self.number,
-        })?;
-        Ok(Step::Space)
+        });
+        Step::Space
     }
 
     // Reads a byte, and says how far the line is read then.
-    fn feed(&mut self, byte: u8) -> Result<Step, Fault> {
+    fn feed(&mut self, byte: u8) -> Result<Step, Refused> {
         let ready = self.digits > 0;
         match (self.step, byte) {
             (Step::Start, b'd') => Ok(Step::Declare),
@@ -105,50 +142,63 @@ impl Reader {
                 self.variable = self.number;
                 Ok(self.begin(Step::Value))
             }
-            (Step::Value, b' ') if ready => Ok(self.literal()?),
+            (Step::Value, b' ') if ready => Ok(self.literal()),
             (Step::Size | Step::Variable | Step::Value, _) => self.digit(self.step, byte),
-            _ => Err(Fault::from(Refused::Unreadable)),
+            _ => Err(Refused::Unreadable),
         }
     }
 
     // The line ends.
-    fn end(mut self) -> Result<Line, Fault> {
+    fn end(mut self) -> Result<Line, Refused> {
         match self.step {
             Step::Size if self.digits > 0 => Ok(Line::Declare(self.number)),
-            Step::Clause => Ok(Line::State(self.literals)),
+            Step::Clause => Ok(Line::State(self.clause)),
             Step::Value if self.digits > 0 => {
-                self.literal()?;
-                Ok(Line::State(self.literals))
+                self.literal();
+                Ok(Line::State(self.clause))
             }
-            _ => Err(Fault::from(Refused::Unreadable)),
+            _ => Err(Refused::Unreadable),
         }
     }
 }
 
 // Reads a line, which has no newline.
-pub fn read(heap: Global, line: &[u8]) -> Result<Line, Fault> {
-    let mut reader = Reader::new(heap);
+pub fn read(line: &[u8]) -> Result<Line, Refused> {
+    let mut reader = Reader::new();
     for byte in line {
         reader.step = reader.feed(*byte)?;
     }
     reader.end()
 }
 
+// The lines of an input that were not given yet.
+#[derive(Drop)]
+pub struct Lines<'a>(&'a [u8]);
+
 // The lines of an input: a newline ends a line, and the last line may do without.
-// kept: byte by byte, for the reason that the reader of a line has.
-pub fn split(heap: Global, input: &[u8]) -> Result<Vec<Vec<u8>>, AllocError> {
-    let mut lines = Vec::new(heap);
-    let mut line = Vec::new(heap);
-    for byte in input {
-        if *byte == b'\n' {
-            lines.push(line)?;
-            line = Vec::new(heap);
-        } else {
-            line.push(*byte)?;
+pub fn split(input: &[u8]) -> Lines<'_> {
+    Lines(input)
+}
+
+// kept: cut by hand, for the reason that the reader of a line has.
+impl<'a> Iterator for Lines<'a> {
+    ghost use Rattle.std.specs.Prelude.{length};
+    ghost use Rattle.std.specs.Iterator.{at_most};
+
+    type Item = &'a [u8];
+
+    ghost remaining = { λ s. at_most (length s.0.now) };
+
+    fn next(&mut self) -> Option<&'a [u8]> {
+        let bytes = self.0;
+        if bytes.is_empty() {
+            return None;
         }
+        let end = bytes
+            .iter()
+            .position(|byte| *byte == b'\n')
+            .unwrap_or(bytes.len());
+        self.0 = bytes.get(end.saturating_add(1)..).unwrap_or(&[]);
+        Some(bytes.get(..end).unwrap_or(&[]))
     }
-    if !line.is_empty() {
-        lines.push(line)?;
-    }
-    Ok(lines)
 }

@@ -16,7 +16,7 @@ pub struct Readings {
 }
 
 impl Readings {
-    pub fn new(heap: Global, coding: Coding) -> Result<Readings, AllocError> {
+    pub fn try_new(heap: Global, coding: Coding) -> Result<Readings, AllocError> {
         let mut codes = Vec::new(heap);
         if coding.in_range() {
             for value in 1..=coding.size {
@@ -27,6 +27,14 @@ impl Readings {
             }
         }
         Ok(Readings { codes })
+    }
+
+    // The same, but no rows where there is no memory for them all.
+    pub fn new(heap: Global, coding: Coding) -> Readings {
+        let none = Readings {
+            codes: Vec::new(heap),
+        };
+        Readings::try_new(heap, coding).unwrap_or(none)
     }
 
     // The value that a row of bits stands for.

@@ -12,7 +12,7 @@ pub enum Refused {
     Stranger { place: usize },
     Value { place: usize },
     Entries,
-    Words { wanted: usize, left: usize },
+    Words { wanted: i64, left: i64 },
     Unreadable,
 }
 
@@ -53,5 +53,15 @@ impl From<AllocError> for Fault {
 impl<T: Drop> From<AllocFailed<T>> for Fault {
     fn from(error: AllocFailed<T>) -> Fault {
         Fault::Memory(AllocError::from(error))
+    }
+}
+
+impl Fault {
+    // What is left of it where what there is no memory for is lost.
+    pub(crate) fn lost(self) -> Result<(), Refused> {
+        match self {
+            Fault::Refused(refused) => Err(refused),
+            Fault::Memory(_) => Ok(()),
+        }
     }
 }

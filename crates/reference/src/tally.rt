@@ -1,7 +1,7 @@
 // Counts comparisons, and reports the first of a group that fails.
 use std::alloc::{AllocError, Global};
-use std::fmt;
 use std::fmt::{Display, Write};
+use std::{fmt, mem};
 
 // How many comparisons were tried, and how many of them agree.
 #[derive(Clone, Copy, Default)]
@@ -88,13 +88,14 @@ impl Display for Case<'_> {
     }
 }
 
-// The comparisons of a group; the first difference of the group; the comparisons of all groups before; and what is reported of them.
+// The comparisons of a group; the first difference of the group; whether a group before fails; and what is reported of all groups.
+// kept: a flag, since a sum of all scores would stop at the largest number, and say then that all agree.
 #[derive(Drop)]
 pub struct Tally {
     pub heap: Global,
     score: Score,
     difference: String,
-    before: Score,
+    fails: bool,
     pub report: String,
 }
 
@@ -104,7 +105,7 @@ impl Tally {
             heap,
             score: Score::default(),
             difference: String::new(heap),
-            before: Score::default(),
+            fails: false,
             report: String::new(heap),
         }
     }
@@ -114,38 +115,54 @@ impl Tally {
         self.score.add(Score::of(true));
     }
 
-    // Counts comparisons that a case shows.
-    pub fn count(&mut self, score: Score, case: &Case<'_>) -> Result<(), AllocError> {
-        if !score.is_full() && self.score.is_full() {
+    // Counts comparisons that a case shows. The first that does not agree is written out.
+    pub fn try_count(&mut self, score: Score, case: &Case<'_>) -> Result<(), AllocError> {
+        let first = self.score.is_full() && !score.is_full();
+        self.score.add(score);
+        if first {
             write!(self.difference, "{case}")?;
         }
-        self.score.add(score);
         Ok(())
+    }
+
+    // The same, but of the case what there is no memory for is lost.
+    pub fn count(&mut self, score: Score, case: &Case<'_>) {
+        let _ = self.try_count(score, case);
     }
 
     // Compares what is wanted with what was made.
-    pub fn compare(&mut self, case: &Case<'_>) -> Result<(), AllocError> {
-        self.count(Score::of(case.wanted == case.made), case)
+    pub fn try_compare(&mut self, case: &Case<'_>) -> Result<(), AllocError> {
+        self.try_count(Score::of(case.wanted == case.made), case)
+    }
+
+    // The same, but of the case what there is no memory for is lost.
+    pub fn compare(&mut self, case: &Case<'_>) {
+        let _ = self.try_compare(case);
     }
 
     // Reports a group, and begins the next one.
-    pub fn close<N: Display + Drop>(&mut self, name: N) -> Result<(), AllocError> {
-        let Score { tried, agree } = self.score;
+    pub fn try_close<N: Display + Drop>(&mut self, name: N) -> Result<(), AllocError> {
+        let score = mem::take(&mut self.score);
+        let difference = mem::replace(&mut self.difference, String::new(self.heap));
+        self.fails = self.fails || !score.is_full();
+        let Score { tried, agree } = score;
         writeln!(self.report, "{name}: {tried} tried, {agree} agree")?;
-        self.report.push_str(self.difference.as_str())?;
-        self.before.add(self.score);
-        self.difference.clear();
-        self.score = Score::default();
-        Ok(())
+        self.report.push_str(difference.as_str())
+    }
+
+    // The same, but of the report what there is no memory for is lost.
+    pub fn close<N: Display + Drop>(&mut self, name: N) {
+        let _ = self.try_close(name);
     }
 
     // Reports whether all agree.
-    pub fn finish(&mut self) -> Result<(), AllocError> {
-        let all = if self.before.is_full() {
-            "all agree"
-        } else {
-            "DISAGREE"
-        };
+    pub fn try_finish(&mut self) -> Result<(), AllocError> {
+        let all = if self.fails { "DISAGREE" } else { "all agree" };
         writeln!(self.report, "{all}")
+    }
+
+    // The same, but of the report what there is no memory for is lost.
+    pub fn finish(&mut self) {
+        let _ = self.try_finish();
     }
 }

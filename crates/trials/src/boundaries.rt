@@ -138,7 +138,7 @@ impl Limit {
         let mut made = library::run(tally, input.as_bytes())?;
         let wanted = fill(tally.heap, self.front, "")?;
         made.truncate(wanted.len());
-        tally.compare(&Case {
+        tally.try_compare(&Case {
             input: input.as_bytes(),
             wanted: wanted.as_bytes(),
             made: made.as_slice(),

@@ -19,7 +19,7 @@ use workbook::Parts;
 const BYTES: usize = 1_000_000;
 
 // The words of so many bytes, nine to a word.
-const WORDS: usize = 111_111;
+const WORDS: i64 = 111_111;
 
 // A literal as the second translator takes it.
 // kept: the sign is matched, since neither type is of this crate, and so no From can be written here.
@@ -37,10 +37,10 @@ fn signed(literal: &Literal) -> Signed {
 // Makes a call of the second translator.
 fn call(heap: Global, sheet: &mut Sheet, call: &Call) -> Result<(), Fault> {
     match call {
-        Call::Declare(size) => sheet.declare(i64::from(*size)),
+        Call::Declare(size) => sheet.try_declare(i64::from(*size)),
         Call::State(clause) => {
             let literals: Vec<Signed> = clause.iter().map(signed).collect(heap)?;
-            sheet.state(literals.as_slice())
+            sheet.try_state(literals.as_slice())
         }
     }
 }
@@ -50,7 +50,7 @@ fn wanted(heap: Global, row: &[Call]) -> Result<String, AllocError> {
     let mut sheet = Sheet::new(heap, Encoding::FR, WORDS);
     for (place, step) in (1..).zip(row) {
         let outcome = call(heap, &mut sheet, step);
-        sheet.note(place, outcome)?;
+        sheet.try_note(place, outcome)?;
     }
     sheet.to_string(heap)
 }
@@ -105,7 +105,7 @@ fn made(heap: Global, row: &[Call]) -> Result<Vec<u8>, AllocError> {
 fn compare(tally: &mut Tally, row: &[Call]) -> Result<(), AllocError> {
     let wanted = wanted(tally.heap, row)?;
     let made = made(tally.heap, row)?;
-    tally.compare(&Case {
+    tally.try_compare(&Case {
         input: b"",
         wanted: wanted.as_bytes(),
         made: made.as_slice(),

@@ -18,6 +18,8 @@ mod random;
 mod random_sheets;
 mod refused_lines;
 mod tables;
+#[cfg(test)]
+mod without_fail;
 
 use making::Maker;
 use reference::tally::Tally;
@@ -37,7 +39,7 @@ fn group<F: FnOnce(&mut Tally) -> Result<(), AllocError>>(
     requires { F.IsAlwaysCallable trials }
 {
     trials(tally)?;
-    tally.close(name)
+    tally.try_close(name)
 }
 
 // Tries something made at random so many times, and reports it as a group.
@@ -53,7 +55,7 @@ fn rounds<F: Fn(&mut Tally, &mut Maker) -> Result<(), AllocError>>(
     for _ in 0..count {
         trial(tally, maker)?;
     }
-    tally.close(name)
+    tally.try_close(name)
 }
 
 fn try_random(tally: &mut Tally, maker: &mut Maker) -> Result<(), AllocError> {
@@ -83,6 +85,6 @@ fn main(rt: HostRuntime) -> io::Result<()> {
     let mut maker = Maker::new(rt.alloc(), SEED);
     try_random(&mut tally, &mut maker)?;
     try_written(&mut tally)?;
-    tally.finish()?;
+    tally.try_finish()?;
     rt.stdout().write_all(tally.report.as_bytes())
 }

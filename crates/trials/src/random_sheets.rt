@@ -81,5 +81,5 @@ pub fn try_small(tally: &mut Tally, maker: &mut Maker) -> Result<(), AllocError>
         wanted: made.as_slice(),
         made: made.as_slice(),
     };
-    tally.count(score, &case)
+    tally.try_count(score, &case)
 }

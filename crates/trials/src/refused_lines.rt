@@ -48,7 +48,7 @@ fn check(tally: &mut Tally, input: &[u8]) -> Result<(), AllocError> {
         if *number > 1 {
             let input = without(heap, input, *number)?;
             let made = translate_text(heap, input.as_slice())?;
-            tally.compare(&Case {
+            tally.try_compare(&Case {
                 input: input.as_slice(),
                 wanted: masked(heap, output.as_slice(), Some(refusal))?.as_slice(),
                 made: masked(heap, made.as_slice(), None)?.as_slice(),
