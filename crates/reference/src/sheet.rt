@@ -270,7 +270,10 @@ impl Sheet {
 
     // Adds all that is to be printed. What there is no memory for is lost.
     pub fn print(&self, all: &mut Vec<u8>) {
-        let _ = io::Write::write_fmt(all, format_args!("{self}"));
+        let header = format_args!("p cnf {} {}\n", self.booleans, self.clauses);
+        let _ = all.extend_from_slice(self.refusals.as_bytes());
+        let _ = io::Write::write_fmt(all, header);
+        let _ = all.extend_from_slice(self.text.as_bytes());
     }
 }
 
