@@ -1,4 +1,7 @@
 // Reads a line behind the first, one byte after the other.
+ghost use Rattle.std.specs.Prelude.{◌≡◌, ◌==◌, ◌∷◌, [], if◌then◌else◌, drop};
+ghost use Rattle.std.specs.List.{starts_with};
+
 use crate::forms::Sign;
 use crate::refusals::Refused;
 
@@ -13,7 +16,7 @@ pub struct Signed {
 // The most literals of a clause.
 pub(crate) const MOST_LITERALS: usize = 16;
 
-// The literals of a clause. Of one that has more than may be, only their number is known.
+// The literals of a clause. Of one that has more than may be, only their number is known; `read_literals` gives them.
 // kept: an array with a count, so that a line can be copied, and is read without memory.
 #[derive(Clone, Copy)]
 pub struct Clause {
@@ -169,6 +172,45 @@ pub fn read(line: &[u8]) -> Result<Line, Refused> {
         reader.step = reader.feed(*byte)?;
     }
     reader.end()
+}
+
+// What is left of a line of which some literals were given.
+#[derive(Drop)]
+pub struct Literals<'a>(&'a [u8]);
+
+// The literals of a line that states a clause, however many there are. A line that only begins so has those before the first that
+// cannot be read.
+pub fn read_literals(line: &[u8]) -> Literals<'_>
+    ensures { result.0.now ≡ (if starts_with (λ a b. a == b) line.now (115 ∷ 32 ∷ []) then drop 2 line.now else []) }
+{
+    Literals(line.strip_prefix(b"s ").unwrap_or(&[]))
+}
+
+impl Iterator for Literals<'_> {
+    ghost use Rattle.std.specs.Prelude.{length};
+    ghost use Rattle.std.specs.Iterator.{at_most};
+
+    type Item = Signed;
+
+    ghost remaining = { λ s. at_most (length s.0.now) };
+
+    fn next(&mut self) -> Option<Signed> {
+        let bytes = self.0;
+        if bytes.is_empty() {
+            return None;
+        }
+        let mut reader = Reader::new();
+        reader.step = Step::Space;
+        // A space ends a literal, also the last one.
+        for (place, byte) in bytes.iter().chain(b" ").enumerate() {
+            reader.step = reader.feed(*byte).ok()?;
+            if reader.clause.count > 0 {
+                self.0 = bytes.get(place.saturating_add(1)..).unwrap_or(&[]);
+                return reader.clause.literals()?.first().copied();
+            }
+        }
+        None
+    }
 }
 
 // The lines of an input that were not given yet.

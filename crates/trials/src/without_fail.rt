@@ -1,13 +1,14 @@
-// The calls of the second implementation that cannot fail, where there is memory: what they give is written out.
+// The calls of the second implementation that no test program makes, where there is memory: what they give is written out.
 use reference::codings::Coding;
 use reference::encodings::Encoding;
 use reference::forms::Sign;
-use reference::lines::Signed;
+use reference::lines::{Line, Signed, read, read_literals};
 use reference::program::{output, read_first};
 use reference::readings::Readings;
 use reference::refusals::Refused;
 use reference::sheet::Sheet;
 use reference::tally::{Case, Score, Tally};
+use std::fmt::Write;
 
 #[test]
 fn prints_what_the_program_prints(rt: HostRuntime) {
@@ -113,4 +114,33 @@ fn reports_groups(rt: HostRuntime) {
         tally.report.as_str(),
         "first: 2 tried, 1 agree\n  input:\n    i\n  wanted, near the first difference:\n    a\n  made:\n    b\nsecond: 1 tried, 1 agree\nDISAGREE\n"
     );
+}
+
+// More literals than a clause may have: the line has their number, and they are read one by one.
+#[test]
+fn reads_many_literals(rt: HostRuntime) {
+    let line =
+        "s +1:1 -2:2 +3:3 -4:4 +5:5 -6:6 +7:7 -8:8 +9:9 -10:1 +11:2 -12:3 +13:4 -14:5 +15:6 -16:7 +255:64";
+    assert!(rt;
+        matches!(read(line.as_bytes()), Ok(Line::State(clause)) if clause.count == 17 && clause.literals().is_none())
+    );
+    let mut text = String::new(rt.alloc());
+    for Signed {
+        sign,
+        variable,
+        value,
+    } in read_literals(line.as_bytes()) {
+        let sign = if sign == Sign::Plus { '+' } else { '-' };
+        assert!(rt; write!(text, " {sign}{variable}:{value}").is_ok());
+    }
+    assert_eq!(rt; Some(text.as_str()), line.strip_prefix('s'));
+    for (line, count) in [
+        ("s", 0),
+        ("d 5", 0),
+        ("", 0),
+        ("s +1:2", 1),
+        ("s +1:2 +:2 +1:3", 1),
+    ] {
+        assert_eq!(rt; read_literals(line.as_bytes()).count(), count);
+    }
 }
