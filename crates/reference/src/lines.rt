@@ -178,8 +178,8 @@ pub fn read(line: &[u8]) -> Result<Line, Refused> {
 #[derive(Drop)]
 pub struct Literals<'a>(&'a [u8]);
 
-// The literals of a line that states a clause, however many there are. A line that only begins so has those before the first that
-// cannot be read.
+// The literals of a line that states a clause, however many there are: what is behind s (115) and a space (32) is gone through. A line
+// that only begins so has those before the first that cannot be read.
 pub fn read_literals(line: &[u8]) -> Literals<'_>
     ensures { result.0.now ≡ (if starts_with (λ a b. a == b) line.now (115 ∷ 32 ∷ []) then drop 2 line.now else []) }
 {
@@ -201,7 +201,7 @@ impl Iterator for Literals<'_> {
         }
         let mut reader = Reader::new();
         reader.step = Step::Space;
-        // A space ends a literal, also the last one.
+        // A space ends a literal. One more is read behind the line, which ends the last.
         for (place, byte) in bytes.iter().chain(b" ").enumerate() {
             reader.step = reader.feed(*byte).ok()?;
             if reader.clause.count > 0 {
